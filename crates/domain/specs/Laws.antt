@@ -1,5 +1,5 @@
 -- What any domain must show of its maps.
-use Prim.Native.Nat.{ℕ, _≤_, _<_}
+use Prim.Native.Nat.{ℕ, _+_, _^_, _≤_, _<_}
 use mathlib.Core.Bool.{Bool, true}
 use mathlib.Core.List.{List, [], _∷_}
 use mathlib.Core.Path.{_≡_}
@@ -9,7 +9,7 @@ use Rattle.std.specs.declared.option.Option.the-variants.{Some, None}
 use Rattle.std.specs.Options.{Cases}
 use Rattle.std.specs.shelf.Sorted.{Shuffled}
 use Rattle.scan.specs.Count.{count-below}
-use Rattle.domain.specs.Maps.{Maps, points, times, Parts, Inside, Fits, Holds}
+use Rattle.domain.specs.Maps.{Maps, points, times, total, Parts, Inside, Fits, Holds}
 
 pub record Laws {P : Type 0} (d : Maps P) : Type 0 where
   -- a count is the number of points held, and there is at least one
@@ -47,3 +47,15 @@ pub record Laws {P : Type 0} (d : Maps P) : Type 0 where
   pub height-most : (p : P) → d .height p ≤ 24
   pub height-within : (q p : P) → d .within q p ≡ true → d .height q ≤ d .height p
   pub height-halves : (p : P) → 1 < d .count p → (d .height (d .halves p .0) < d .height p) × (d .height (d .halves p .1) < d .height p)
+
+-- What follows from the laws, for every domain.
+pub record Consequences {P : Type 0} (d : Maps P) : Type 0 where
+  -- disjoint pieces that make up another have its points between them
+  pub parts : (p : P) (ps : List P) → Parts d p ps → total d ps ≡ d .count p
+  pub halves : (p : P) → 1 < d .count p → d .count (d .halves p .0) + d .count (d .halves p .1) ≡ d .count p
+  pub strips : (p q : P) → d .within q p ≡ true → d .count q + total d (d .strips p q) ≡ d .count p
+  -- a sub-piece has no more points than the piece, and a piece of one point no sub-piece but itself
+  pub fewer : (q p : P) → d .within q p ≡ true → d .count q ≤ d .count p
+  pub alone : (q p : P) → d .within q p ≡ true → d .count p ≡ 1 → q ≡ p
+  -- a piece of height h has at most 2 ^ h points
+  pub most : (p : P) → d .count p ≤ 2 ^ d .height p

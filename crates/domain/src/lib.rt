@@ -3,3 +3,4 @@ pub mod domain;
 pub mod refusal;
 pub mod strip_slots;
 pub mod strips;
+pub mod sums;
