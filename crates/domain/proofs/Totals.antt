@@ -12,7 +12,7 @@ use Rattle.scan.specs.Count.{bit, sum-below, count-below}
 use Rattle.scan.proofs.Counting.{sum-ext, sum-mono, sum-add, sum-zero, bit-le, bit-true, bit-false}
 use native.Mathlib.Nat.{pow-succ'}
 use Rattle.domain.specs.Laws.{Laws, Consequences}
-use Rattle.domain.specs.Maps.{Maps, points, times, total, Parts}
+use Rattle.domain.specs.Maps.{Maps, points, times, total, Parts, Inside}
 
 cond-bit : (b : Bool) → cond b 1 0 ≡ bit b
 cond-bit true = refl
@@ -29,6 +29,15 @@ module _ {P : Type 0} (d : Maps P) where
 
   pub total-cons : (p : P) (ps : List P) → total d (p ∷ ps) ≡ d .count p + total d ps
   total-cons p ps = sumBy-cons (d .count) p ps
+
+  -- a point that a listed sub-piece of x holds is held by x
+  pub times-held : (x : P) (n : ℕ) → ((q : P) → d .within q x ≡ true → d .holds q n ≡ true → d .holds x n ≡ true) → (ps : List P) → Inside d x ps → 0 < times d n ps → d .holds x n ≡ true
+  times-held x n held [] a h = absurd (omega arith)
+  times-held x n held (p ∷ ps) a h =
+      elim (cases-bool (d .holds p n)) [
+        | inl e ↦ held p (a .0) e
+        | inr e ↦ times-held x n held ps (a .1) (omega (arith, times-cons n p ps, bit-false (d .holds p n) e))
+      ]
 
 module _ {P : Type 0} (d : Maps P) (l : Laws d) where
   -- the points of a list of pieces, counted point by point

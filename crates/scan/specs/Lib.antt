@@ -1,3 +1,4 @@
 pub mod Count
 pub mod Depth
 pub mod Live
+pub mod Powers

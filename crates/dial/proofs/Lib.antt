@@ -1,0 +1,4 @@
+pub mod Lawful
+pub mod Made
+pub mod Offsets
+pub mod Slices
