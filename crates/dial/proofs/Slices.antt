@@ -9,7 +9,7 @@ use lib.Dec.{leb, ltb}
 use Rattle.std.specs.declared.option.Option.{Option}
 use Rattle.std.specs.declared.option.Option.the-variants.{Some, None}
 use Rattle.std.specs.Vec.{listOf}
-use Rattle.std.proofs.shelf.Tests.{cases-lt, leb-true, le-leb}
+use Rattle.std.proofs.shelf.Tests.{cases-lt, leb-true, ltb-true, le-leb, and-parts}
 use Rattle.std.proofs.shelf.Ways.{tells}
 use Rattle.scan.specs.Count.{bit}
 use Rattle.scan.proofs.Counting.{from-to}
@@ -33,6 +33,21 @@ relative x q n w h =
     let j = offset-below (x .start) n (x .placed) h in
     let m = x .most in
     grind (arith, tells)
+
+pub placed-bit : (x q : Arc) (n i j : ℕ) → within q x ≡ true → n < 3600 → begin x q ≡ i → i + q .len ≡ j → bit (holds q n) ≡ bit (from-to i j (offset (x .start) n))
+placed-bit x q n i j w h b e =
+    ap bit (relative x q n w h)
+    ∙ ap₂ (λ (k m : ℕ). bit (from-to k m (offset (x .start) n))) b (omega (arith, b, e))
+
+pub from-to-true : (a b i : ℕ) → a ≤ i → i < b → from-to a b i ≡ true
+from-to-true a b i h l = grind (arith, tells)
+
+pub from-to-parts : (a b i : ℕ) → from-to a b i ≡ true → (a ≤ i) × (i < b)
+from-to-parts a b i e = let p = and-parts (leb a i) (ltb i b) e in (leb-true a i (p .0), ltb-true i b (p .1))
+
+-- two stretches that meet
+pub meeting : (i j k o : ℕ) → i ≤ j → j ≤ k → bit (from-to i j o) + bit (from-to j k o) ≡ bit (from-to i k o)
+meeting i j k o h l = grind (arith, tells)
 
 -- any stretch of x is a sub-piece
 pub sliced : (x : Arc) (i m : ℕ) → 0 < m → i + m ≤ x .len → (b : Arc) × (part x i m ≡ Some b) × (begin x b ≡ i) × (b .len ≡ m) × (within b x ≡ true)

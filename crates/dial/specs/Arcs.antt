@@ -68,6 +68,10 @@ span x (Some p) (Some q) = part x (min (begin x p) (begin x q)) (max (end x p) (
 abbrev pub depth : Arc → List Arc → ℕ → ℕ
 depth x ps i = countBy (λ p. holds p (point (x .start) i)) ps
 
+-- at least k of them do
+abbrev pub deep : Arc → List Arc → ℕ → ℕ → Bool
+deep x ps k i = leb k (depth x ps i)
+
 -- a stretch of an arc's points
 abbrev pub along : Arc → Option Stretch → Option Arc
 along x None = None
@@ -75,7 +79,7 @@ along x (Some s) = part x (s .low) (suc (s .high) - s .low)
 
 -- from the first to the last point of x that at least k of them hold
 abbrev pub gather : Arc → List Arc → ℕ → Option Arc
-gather x ps k = along x (run (λ i. leb k (depth x ps i)) 0 (x .len))
+gather x ps k = along x (run (deep x ps k) 0 (x .len))
 
 abbrev pub number : Arc → ℕ
 number a = a .start * 4096 + a .len
