@@ -61,7 +61,7 @@ transitive p q r v w =
     le-leb (end r p) (r .len)
     (omega (arith, leb-true (end q p) (q .len) v, leb-true (end r q) (r .len) w, r .most, p .some, offset-by (r .start) (q .start) (p .start) (r .placed) (q .placed) (p .placed), offset-below (r .start) (p .start) (r .placed) (p .placed)))
 
-held : (q p : Arc) → within q p ≡ true → (n : ℕ) → holds q n ≡ true → holds p n ≡ true
+pub held : (q p : Arc) → within q p ≡ true → (n : ℕ) → holds q n ≡ true → holds p n ≡ true
 held q p w n h =
     elim (cases-lt n 3600) [
       | inl l ↦
@@ -109,13 +109,13 @@ module _ (a : Arc) (two : 1 < a .len) where
       times-cons dial n (halves a .0) (halves a .1 ∷ [])
       ∙ ap (λ k. bit (holds (halves a .0) n) + k) (times-cons dial n (halves a .1) [])
       ∙ elim (cases-lt n 3600) [
-        inl h ↦
-          let p = ap (λ b. bit (holds b n)) (low-half .1) ∙ placed-bit a (low-half .0) n 0 (a .len / 2) (low-half .4) h (low-half .2) (omega (arith, low-half .3)) in
-          let q = ap (λ b. bit (holds b n)) (high-half .1) ∙ placed-bit a (high-half .0) n (a .len / 2) (a .len) (high-half .4) h (high-half .2) (omega (arith, high-half .3)) in
-          let r = placed-bit a a n 0 (a .len) (reflexive a) h (begin-self a) (omega arith) in
-          let m = meeting 0 (a .len / 2) (a .len) (offset (a .start) n) (omega arith) (omega arith) in
-          omega (arith, p, q, r, m)
-      | inr h ↦ omega (arith, ap bit (holds-beyond (halves a .0) n h), ap bit (holds-beyond (halves a .1) n h), ap bit (holds-beyond a n h))
+        | inl h ↦
+            let p = ap (λ b. bit (holds b n)) (low-half .1) ∙ placed-bit a (low-half .0) n 0 (a .len / 2) (low-half .4) h (low-half .2) (omega (arith, low-half .3)) in
+            let q = ap (λ b. bit (holds b n)) (high-half .1) ∙ placed-bit a (high-half .0) n (a .len / 2) (a .len) (high-half .4) h (high-half .2) (omega (arith, high-half .3)) in
+            let r = placed-bit a a n 0 (a .len) (reflexive a) h (begin-self a) (omega arith) in
+            let m = meeting 0 (a .len / 2) (a .len) (offset (a .start) n) (omega arith) (omega arith) in
+            omega (arith, p, q, r, m)
+        | inr h ↦ omega (arith, ap bit (holds-beyond (halves a .0) n h), ap bit (holds-beyond (halves a .1) n h), ap bit (holds-beyond a n h))
       ]
 
   halves-lower : (log-up (halves a .0 .len) < log-up (a .len)) × (log-up (halves a .1 .len) < log-up (a .len))
@@ -146,36 +146,35 @@ module _ (p q : Arc) (w : within q p ≡ true) where
       times-cons dial n q (strips p q)
       ∙ ap (λ k. bit (holds q n) + k) (sumBy-append (λ b. cond (holds b n) 1 0) before after)
       ∙ elim (cases-lt n 3600) [
-        inl h ↦
-          let o = offset (p .start) n in
-          let b = slice-times p 0 (begin p q) n (omega (arith, ends)) h in
-          let m = placed-bit p q n (begin p q) (end p q) w h refl refl in
-          let a = slice-times p (end p q) (p .len - end p q) n (omega (arith, ends)) h in
-          let x = placed-bit p p n 0 (p .len) (reflexive p) h (begin-self p) (omega arith) in
-          let c : bit (from-to 0 (0 + begin p q) o) ≡ bit (from-to 0 (begin p q) o) = ap (λ (k : ℕ). bit (from-to 0 k o)) (omega arith) in
-          let e : bit (from-to (end p q) (end p q + (p .len - end p q)) o) ≡ bit (from-to (end p q) (p .len) o) = ap (λ (k : ℕ). bit (from-to (end p q) k o)) (omega (arith, ends)) in
-          omega (arith, b, m, a, x, c, e, meeting 0 (begin p q) (end p q) o (omega arith) (omega arith), meeting 0 (end p q) (p .len) o (omega arith) ends)
-      | inr h ↦ omega (arith, ap bit (holds-beyond q n h), slice-beyond n before h, slice-beyond n after h, ap bit (holds-beyond p n h))
+        | inl h ↦
+            let o = offset (p .start) n in
+            let b = slice-times p 0 (begin p q) n (omega (arith, ends)) h in
+            let m = placed-bit p q n (begin p q) (end p q) w h refl refl in
+            let a = slice-times p (end p q) (p .len - end p q) n (omega (arith, ends)) h in
+            let x = placed-bit p p n 0 (p .len) (reflexive p) h (begin-self p) (omega arith) in
+            let c : bit (from-to 0 (0 + begin p q) o) ≡ bit (from-to 0 (begin p q) o) = ap (λ (k : ℕ). bit (from-to 0 k o)) (omega arith) in
+            let e : bit (from-to (end p q) (end p q + (p .len - end p q)) o) ≡ bit (from-to (end p q) (p .len) o) = ap (λ (k : ℕ). bit (from-to (end p q) k o)) (omega (arith, ends)) in
+            omega (arith, b, m, a, x, c, e, meeting 0 (begin p q) (end p q) o (omega arith) (omega arith), meeting 0 (end p q) (p .len) o (omega arith) ends)
+        | inr h ↦ omega (arith, ap bit (holds-beyond q n h), slice-beyond n before h, slice-beyond n after h, ap bit (holds-beyond p n h))
       ]
+
+-- where the span of two arcs begins and ends
+abbrev pub lower : Arc → Arc → Arc → ℕ
+lower x p q = min (begin x p) (begin x q)
+
+abbrev pub upper : Arc → Arc → Arc → ℕ
+upper x p q = max (end x p) (end x q)
 
 -- the span of two sub-pieces, as a stretch of x
 module _ (x p q : Arc) (v : within p x ≡ true) (w : within q x ≡ true) where
-  low : ℕ
-  low = min (begin x p) (begin x q)
-
-  high : ℕ
-  high = max (end x p) (end x q)
-
-  spanned : (b : Arc) × (span x (Some p) (Some q) ≡ Some b) × (begin x b ≡ low) × (b .len ≡ high - low) × (within b x ≡ true)
-  unfolding low high
+  pub spanned : (b : Arc) × (span x (Some p) (Some q) ≡ Some b) × (begin x b ≡ lower x p q) × (b .len ≡ upper x p q - lower x p q) × (within b x ≡ true)
   spanned =
       let e = leb-true (end x p) (x .len) v in
       let f = leb-true (end x q) (x .len) w in
       let s = p .some in
-      sliced x low (high - low) (omega arith) (omega arith)
+      sliced x (lower x p q) (upper x p q - lower x p q) (omega arith) (omega arith)
 
-  span-within : Cases (span x (Some p) (Some q)) ⊥ (λ s. (within s x ≡ true) × (within p s ≡ true) × (within q s ≡ true))
-  unfolding low high
+  pub span-within : Cases (span x (Some p) (Some q)) ⊥ (λ s. (within s x ≡ true) × (within p s ≡ true) × (within q s ≡ true))
   span-within =
       let b = spanned in
       let i = p .some in
@@ -187,17 +186,17 @@ module _ (x p q : Arc) (v : within p x ≡ true) (w : within q x ≡ true) where
 
 -- what a stretch of x is that is a run of deep points
 module _ (x : Arc) (ps : List Arc) (k : ℕ) where
-  ran : Runs (deep x ps k) 0 (x .len) (run (deep x ps k) 0 (x .len))
+  pub ran : Runs (deep x ps k) 0 (x .len) (run (deep x ps k) 0 (x .len))
   ran = run-is (deep x ps k) 0 (x .len) (x .len) (omega arith)
 
-  laid : (s : Stretch) → Runs (deep x ps k) 0 (x .len) (Some s) → (b : Arc) × (along x (Some s) ≡ Some b) × (begin x b ≡ s .low) × (b .len ≡ suc (s .high) - s .low) × (within b x ≡ true)
+  pub laid : (s : Stretch) → Runs (deep x ps k) 0 (x .len) (Some s) → (b : Arc) × (along x (Some s) ≡ Some b) × (begin x b ≡ s .low) × (b .len ≡ suc (s .high) - s .low) × (within b x ≡ true)
   laid s f = sliced x (s .low) (suc (s .high) - s .low) (omega (arith, f .1)) (omega (arith, f .1, f .2))
 
   along-within : (r : Option Stretch) → Runs (deep x ps k) 0 (x .len) r → Fits dial x (along x r)
   along-within None f = tt
   along-within (Some s) f = let b = laid s f in subst (Fits dial x) (sym (b .1)) (b .4)
 
-  gather-within : Fits dial x (gather x ps k)
+  pub gather-within : Fits dial x (gather x ps k)
   gather-within = along-within (run (deep x ps k) 0 (x .len)) ran
 
   along-holds : (n : ℕ) (r : Option Stretch) → Runs (deep x ps k) 0 (x .len) r → n < 3600 → offset (x .start) n < x .len → deep x ps k (offset (x .start) n) ≡ true → Holds dial (along x r) n
@@ -212,7 +211,7 @@ module _ (x : Arc) (ps : List Arc) (k : ℕ) where
   depth-at : (n : ℕ) → n < 3600 → depth x ps (offset (x .start) n) ≡ times dial n ps
   depth-at n h = ap (λ m. times dial m ps) (point-offset (x .start) n (x .placed) h)
 
-  gather-holds : 0 < k → Inside dial x ps → (n : ℕ) → k ≤ times dial n ps → Holds dial (gather x ps k) n
+  pub gather-holds : 0 < k → Inside dial x ps → (n : ℕ) → k ≤ times dial n ps → Holds dial (gather x ps k) n
   gather-holds some a n h =
       let i = times-held dial x n (λ q w. held q x w n) ps a (omega arith) in
       let p = and-parts (ltb n 3600) (ltb (offset (x .start) n) (x .len)) i in

@@ -87,6 +87,14 @@ number a = a .start * 4096 + a .len
 abbrev pub arc-numbered : ℕ → Option Arc
 arc-numbered n = arc-of (n / 4096) (n % 4096)
 
+-- the stretch of x that the arc of a number takes up; one that is no arc's takes up none
+abbrev pub taken-up : Arc → Option Arc → Stretch
+taken-up x None = record { low = 1; high = 0 }
+taken-up x (Some p) = record { low = begin x p; high = end x p - 1 }
+
+abbrev pub extent : Arc → ℕ → Stretch
+extent x n = taken-up x (arc-numbered n)
+
 abbrev pub dial : Maps Arc
 dial = record {
   holds = holds;

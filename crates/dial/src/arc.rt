@@ -3,6 +3,8 @@ ghost use Prim.Native.Nat.{_<_, _≤_};
 
 pub mod domain;
 pub mod made;
+mod order;
+mod runs;
 
 #[derive(Clone, Copy)]
 pub struct Arc {

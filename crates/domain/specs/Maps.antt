@@ -76,6 +76,10 @@ module _ {P : Type 0} (d : Maps P) where
   pieces [] = Some []
   pieces (n ∷ ns) = joined (d .piece n) (pieces ns)
 
+  -- n is the number of a sub-piece of x
+  abbrev pub Member : P → ℕ → Type 0
+  Member x n = Cases (d .piece n) ⊥ (λ p. d .within p x ≡ true)
+
   -- each number of a list is that of a sub-piece of x
   abbrev pub Members : P → List ℕ → Type 0
   Members x ns = Cases (pieces ns) ⊥ (λ ps. Inside x ps)
@@ -83,3 +87,9 @@ module _ {P : Type 0} (d : Maps P) where
   -- o is what at least k of the pieces so numbered hold, in x
   abbrev pub Gathered : P → List ℕ → ℕ → Option P → Type 0
   Gathered x ns k o = Cases (pieces ns) ⊥ (λ ps. o ≡ d .gather x ps k)
+
+  -- o is the smallest sub-piece of x that holds every point of Q, and nothing where Q has none
+  abbrev pub Smallest : P → (ℕ → Type 0) → Option P → Type 0
+  Smallest x Q o =
+      Cases o ((n : ℕ) → Q n → ⊥)
+      (λ s. (d .within s x ≡ true) × ((n : ℕ) → Q n → d .holds s n ≡ true) × ((t : P) → d .within t x ≡ true → ((n : ℕ) → Q n → d .holds t n ≡ true) → d .within s t ≡ true))

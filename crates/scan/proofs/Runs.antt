@@ -3,7 +3,7 @@ use Prim.Native.Nat.{ℕ, zero, suc, _+_, _-_, _≤_, _<_}
 use native.Mathlib.Omega.{arith}
 use mathlib.Core.Bool.{Bool, true, false}
 use mathlib.Core.Logic.{_⊎_, inl, inr}
-use mathlib.Core.Path.{_≡_, refl, ap, ap₂, subst}
+use mathlib.Core.Path.{_≡_, refl, sym, ap, ap₂, subst, _∙_}
 use Rattle.std.specs.declared.option.Option.{Option}
 use Rattle.std.specs.declared.option.Option.the-variants.{Some, None}
 use Rattle.std.proofs.shelf.Tests.{cases-eq, cases-lt, both-ways}
@@ -104,3 +104,18 @@ module _ (p : ℕ → Bool) where
 
   pub last-found : (a b low : ℕ) → First p a b (Some low) → Last p low b None → ⊥
   last-found a b low f d = dead-live low b low d (omega arith) (f .1) (f .2)
+
+-- tests that agree on a range have one run there
+pub run-ext : (p q : ℕ → Bool) (a w : ℕ) → ((i : ℕ) → a ≤ i → i < a + w → p i ≡ q i) → run p a w ≡ run q a w
+run-ext p q a w same = run-unique q a w (a + w) refl (run p a w) (over (run p a w) (run-is p a w (a + w) refl))
+  where
+    over : (r : Option Stretch) → Runs p a (a + w) r → Runs q a (a + w) r
+    over None d = λ i low high. sym (same i low high) ∙ d i low high
+    over (Some s) f = (
+      f .0,
+      f .1,
+      f .2,
+      sym (same (s .low) (f .0) (omega (arith, f .1, f .2))) ∙ f .3,
+      sym (same (s .high) (omega (arith, f .0, f .1)) (f .2)) ∙ f .4,
+      λ i low high e. f .5 i low high (same i low high ∙ e),
+    )

@@ -7,4 +7,4 @@ pub returns-then-start-ge3600 : need.returns-then-start-ge3600
 returns-then-start-ge3600 c = (arc-none (c .args .start) (c .args .len) (λ v. omega (arith, v .0, v .1, v .2, c .then-start-ge3600 .either)), refl)
 
 pub returns : need.returns
-returns c = arc-own (record { start = c .args .start; len = c .args .len; placed = c .result·1 .given .0; some = c .result·1 .given .1 .0; most = c .result·1 .given .1 .1 .0 })
+returns c = arc-own _
