@@ -5,6 +5,7 @@ pub mod domain;
 pub mod made;
 mod order;
 mod runs;
+pub mod shown;
 
 #[derive(Clone, Copy)]
 pub struct Arc {
