@@ -1,0 +1,6 @@
+pub mod Fixing
+pub mod Joining
+pub mod Laws
+pub mod Pieces
+pub mod Rearranging
+pub mod Relaxing
