@@ -1,0 +1,122 @@
+-- The laws of a sheet: what holds after every list of turns from an opening.
+use Prim.Native.Nat.{ℕ, zero, suc, _+_, _*_, _≤_, _<_}
+use mathlib.Core.Bool.{Bool, true, false, _&&_}
+use mathlib.Core.List.{List, [], _∷_, _++_}
+use mathlib.Core.Path.{_≡_}
+use lib.ListN.{length, getD}
+use Rattle.std.specs.shelf.Lists.{All}
+use Rattle.scan.specs.Count.{bit}
+use Rattle.domain.specs.Maps.{Maps, Parts, times, total}
+use Rattle.domain.specs.Refusals.{Given}
+use Rattle.contractor.specs.Meaning.{Meaning}
+use Rattle.contractor.specs.Rearranged.{Rearranged}
+use Rattle.paving.specs.Sheet.{Task, task, State, places, roll, gone, pieces, of-class}
+use Rattle.paving.specs.Steps.{step-entries}
+use Rattle.paving.specs.Turns.{find, tally, answers, after-turns}
+use Rattle.paving.specs.declared.answers.Answer.{Answer}
+use Rattle.paving.specs.declared.answers.Answer.the-variants.{Stepped, Ran as RanFor, Taken as Took, Found, Tallied, Refused}
+use Rattle.paving.specs.declared.classes.Class.{Class}
+use Rattle.paving.specs.declared.classes.Class.the-variants.{Inside as inside, Outside as outside, Undecided as undecided}
+use Rattle.paving.specs.declared.places.Place.{Place}
+use Rattle.paving.specs.declared.places.Place.the-variants.{Waiting, Inside, Outside, Undecided, Taken}
+use Rattle.paving.specs.declared.records.Record.{Record}
+use Rattle.paving.specs.declared.tallies.Points.{Points}
+use Rattle.paving.specs.declared.tallies.Tally.{Tally}
+use Rattle.paving.specs.declared.turns.Turn.{Turn}
+
+-- the pieces taken, on the roll and waiting
+abbrev pub all-pieces : {P : Type 0} → State P → List P
+all-pieces s = pieces (gone s) ++ (pieces (roll s) ++ s .waiting)
+
+-- the points of a tally, added up
+abbrev pub points-in : Points → ℕ
+points-in p = p .inside + p .outside + p .undecided
+
+abbrev pub points-told : Tally → ℕ
+points-told y = points-in (y .taken) + points-in (y .roll) + y .waiting
+
+-- the pieces among which a point of that place lies
+abbrev pub lying : {P : Type 0} → State P → Place → List P
+lying s Waiting = s .waiting
+lying s Inside = of-class inside (roll s)
+lying s Outside = of-class outside (roll s)
+lying s Undecided = of-class undecided (roll s)
+lying s Taken = pieces (gone s)
+
+-- the point of number n lies in exactly one piece of that place
+abbrev pub Lies : {P : Type 0} → Maps P → State P → ℕ → Place → Type 0
+Lies d s n p = times d n (lying s p) ≡ 1
+
+-- The pieces taken, on the roll and waiting share out the start.
+pub record Sum {P : Type 0} (t : Task P) (s : State P) : Type 0 where
+  -- each point of the start lies in exactly one of them, and no other point in any
+  pub shared : Parts (t .maps) (t .start) (all-pieces s)
+  -- their points add up to the start's
+  pub added : total (t .maps) (pieces (gone s)) + total (t .maps) (pieces (roll s)) + total (t .maps) (s .waiting) ≡ t .maps .count (t .start)
+  -- and so do those that tally gives
+  pub tallied : points-told (tally t s) ≡ t .maps .count (t .start)
+  -- find gives the one place where a point of the start lies, and refuses any other number with 14
+  pub found : (n : ℕ) → Given (find t n s) 14 (t .maps .holds (t .start) n ≡ true) (Lies (t .maps) s n)
+  pub one-place : (n : ℕ) (p q : Place) → Lies (t .maps) s n p → Lies (t .maps) s n q → p ≡ q
+
+-- every point of the piece is of the set
+abbrev pub AllOf : {P : Type 0} → Maps P → (ℕ → Bool) → P → Type 0
+AllOf d set p = (n : ℕ) → d .holds p n ≡ true → set n ≡ true
+
+-- no point of the piece is of the set
+abbrev pub NoneOf : {P : Type 0} → Maps P → (ℕ → Bool) → P → Type 0
+NoneOf d set p = (n : ℕ) → d .holds p n ≡ true → set n ≡ false
+
+-- What records say is true of the set, whether they are on the roll or taken.
+pub record Truth {P : Type 0} (t : Task P) (set : ℕ → Bool) (s : State P) : Type 0 where
+  pub inside-all : All (AllOf (t .maps) set) (of-class inside (s .made))
+  pub outside-none : All (NoneOf (t .maps) set) (of-class outside (s .made))
+  pub decided : t .grain ≡ 1 → of-class undecided (s .made) ≡ []
+  -- at grain 1 with nothing waiting, the inside pieces hold exactly the start's points of the set
+  pub exact : t .grain ≡ 1 → s .waiting ≡ [] → (n : ℕ) → times (t .maps) n (of-class inside (s .made)) ≡ bit (t .maps .holds (t .start) n && set n)
+
+-- How far a sheet can go.
+pub record Limits {P : Type 0} (t : Task P) (s : State P) : Type 0 where
+  -- for a start of c points, at most 2c - 1 accepted steps
+  pub few-steps : s .steps + 1 ≤ 2 * t .maps .count (t .start)
+  pub few-waiting : length (s .waiting) ≤ 25
+  pub few-records : (x : P) → length (step-entries t x) ≤ 9
+  pub fits-roll : length (roll s) ≤ places
+  -- a record's label is its place among all that were made
+  pub labels : (k : ℕ) (r : Record P) → k < length (s .made) → getD (s .made) k r .label ≡ k
+
+-- the records that answers gave
+abbrev pub takes : {P : Type 0} → List (Answer P) → List (Record P)
+takes [] = []
+takes (Stepped n ∷ rest) = takes rest
+takes (RanFor r ∷ rest) = takes rest
+takes (Took r ∷ rest) = r ∷ takes rest
+takes (Found p ∷ rest) = takes rest
+takes (Tallied y ∷ rest) = takes rest
+takes (Refused e ∷ rest) = takes rest
+
+-- the steps that answers tell of, those in runs too
+abbrev pub accepted : {P : Type 0} → List (Answer P) → ℕ
+accepted [] = 0
+accepted (Stepped n ∷ rest) = 1 + accepted rest
+accepted (RanFor r ∷ rest) = r .accepted + accepted rest
+accepted (Took r ∷ rest) = accepted rest
+accepted (Found p ∷ rest) = accepted rest
+accepted (Tallied y ∷ rest) = accepted rest
+accepted (Refused e ∷ rest) = accepted rest
+
+-- What a sheet knows of its turns is what their answers said.
+pub record History {P : Type 0} (t : Task P) (us : List Turn) : Type 0 where
+  pub taken-given : gone (after-turns t us) ≡ takes (answers t us)
+  pub steps-told : after-turns t us .steps ≡ accepted (answers t us)
+
+-- All of them, after a list of turns.
+pub record SheetLaws {P : Type 0} (t : Task P) (set : ℕ → Bool) (us : List Turn) : Type 0 where
+  pub sum : Sum t (after-turns t us)
+  pub truth : Truth t set (after-turns t us)
+  pub limits : Limits t (after-turns t us)
+  pub history : History t us
+
+-- Sheets of one start and grain over rearranged contractors answer every list of turns alike.
+abbrev pub Order : {P : Type 0} → Maps P → Meaning P → P → ℕ → Type 0
+Order {P} d m start grain = (b : Meaning P) → Rearranged d m b → (us : List Turn) → answers (task d m start grain) us ≡ answers (task d b start grain) us
