@@ -47,6 +47,10 @@ lying s Taken = pieces (gone s)
 abbrev pub Lies : {P : Type 0} → Maps P → State P → ℕ → Place → Type 0
 Lies d s n p = times d n (lying s p) ≡ 1
 
+-- how many pieces of the five places hold the point of number n
+abbrev pub times-lying : {P : Type 0} → Maps P → State P → ℕ → ℕ
+times-lying d s n = times d n (lying s Waiting) + times d n (lying s Inside) + times d n (lying s Outside) + times d n (lying s Undecided) + times d n (lying s Taken)
+
 -- The pieces taken, on the roll and waiting share out the start.
 pub record Sum {P : Type 0} (t : Task P) (s : State P) : Type 0 where
   -- each point of the start lies in exactly one of them, and no other point in any
@@ -57,7 +61,8 @@ pub record Sum {P : Type 0} (t : Task P) (s : State P) : Type 0 where
   pub tallied : points-told (tally t s) ≡ t .maps .count (t .start)
   -- find gives the one place where a point of the start lies, and refuses any other number with 14
   pub found : (n : ℕ) → Given (find t n s) 14 (t .maps .holds (t .start) n ≡ true) (Lies (t .maps) s n)
-  pub one-place : (n : ℕ) (p q : Place) → Lies (t .maps) s n p → Lies (t .maps) s n q → p ≡ q
+  -- in just one of the five places, and in just one piece there
+  pub one-place : (n : ℕ) → times-lying (t .maps) s n ≡ bit (t .maps .holds (t .start) n)
 
 -- every point of the piece is of the set
 abbrev pub AllOf : {P : Type 0} → Maps P → (ℕ → Bool) → P → Type 0
@@ -120,3 +125,8 @@ pub record SheetLaws {P : Type 0} (t : Task P) (set : ℕ → Bool) (us : List T
 -- Sheets of one start and grain over rearranged contractors answer every list of turns alike.
 abbrev pub Order : {P : Type 0} → Maps P → Meaning P → P → ℕ → Type 0
 Order {P} d m start grain = (b : Meaning P) → Rearranged d m b → (us : List Turn) → answers (task d m start grain) us ≡ answers (task d b start grain) us
+
+-- The laws of every sheet over a contractor that means m, from one start: whatever its grain and its turns.
+pub record PavingLaws {P : Type 0} (d : Maps P) (m : Meaning P) (start : P) : Type 0 where
+  pub stands : (grain : ℕ) (us : List Turn) → SheetLaws (task d m start grain) (m .set) us
+  pub order : (grain : ℕ) → Order d m start grain

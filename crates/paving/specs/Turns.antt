@@ -46,11 +46,25 @@ place-of inside = Inside
 place-of outside = Outside
 place-of undecided = Undecided
 
+-- a run's first step, and the rest of the run, if that is accepted
+abbrev pub ran-on : {P : Type 0} → Result (Outcome ℕ P) Refusal → State P → (State P → Outcome Ran P) → Outcome Ran P
+ran-on (Ok r) s rest = one-more (rest (r .after))
+ran-on (Err e) s rest = outcome (record { accepted = 0; refusal = Some e }) s
+
+-- a turn that may be refused, and then changes nothing
+abbrev pub answered : {A P : Type 0} → (A → Answer P) → Result (Outcome A P) Refusal → State P → Outcome (Answer P) P
+answered f (Ok r) s = outcome (f (r .value)) (r .after)
+answered f (Err e) s = outcome (Refused e) s
+
+abbrev pub found : {P : Type 0} → Result Place Refusal → Answer P
+found (Ok p) = Found p
+found (Err e) = Refused e
+
 module _ {P : Type 0} (t : Task P) where
   -- steps until so many are accepted, or one is refused
   unfoldable pub run : ℕ → State P → Outcome Ran P
   run zero s = outcome (record { accepted = 0; refusal = None }) s
-  run (suc m) s = elim (step t s) [ Ok r ↦ one-more (run m (r .after)) | Err e ↦ outcome (record { accepted = 0; refusal = Some e }) s ]
+  run (suc m) s = ran-on (step t s) s (run m)
 
   -- whether one of the listed pieces holds the point of number n
   abbrev pub held : ℕ → List P → Bool
@@ -79,12 +93,11 @@ module _ {P : Type 0} (t : Task P) where
         «next_label» = length (s .made);
       }
 
-  -- a refused turn changes nothing
   abbrev pub turn : Turn → State P → Outcome (Answer P) P
-  turn StepTurn s = elim (step t s) [ Ok r ↦ outcome (Stepped (r .value)) (r .after) | Err e ↦ outcome (Refused e) s ]
+  turn StepTurn s = answered Stepped (step t s) s
   turn (Run m) s = outcome (RanFor (run m s .value)) (run m s .after)
-  turn Take s = elim (take-oldest s) [ Ok r ↦ outcome (Took (r .value)) (r .after) | Err e ↦ outcome (Refused e) s ]
-  turn (Find n) s = elim (find n s) [ Ok p ↦ outcome (Found p) s | Err e ↦ outcome (Refused e) s ]
+  turn Take s = answered Took (take-oldest s) s
+  turn (Find n) s = outcome (found (find n s)) s
   turn TallyTurn s = outcome (Tallied (tally s)) s
 
   -- the state that turns lead to, and what they answer

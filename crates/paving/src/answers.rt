@@ -1,10 +1,11 @@
 // What a turn answers.
 ghost use mathlib.Core.Path.{_≡_};
 ghost use Rattle.paving.specs.Numbers.{stop-code};
-use domain::refusal::Refusal;
 use crate::places::Place;
-use crate::records::{Record, RecordClone};
+use crate::records::Record;
+use crate::records::RecordClone;
 use crate::tallies::Tally;
+use domain::refusal::Refusal;
 
 // How many steps of a run were accepted, and what refused the next one, if something did.
 #[derive(Clone, Copy)]
