@@ -4,3 +4,4 @@ pub mod Laws
 pub mod Pieces
 pub mod Rearranging
 pub mod Relaxing
+pub mod Sums

@@ -13,6 +13,7 @@ use Rattle.scan.specs.Count.{bit}
 use Rattle.domain.specs.Laws.{Laws}
 use Rattle.domain.specs.Maps.{Maps, times, total}
 use Rattle.contractor.specs.Meaning.{meaning, Sound}
+use Rattle.contractor.proofs.Sums.{times-append, times-cons, times-single}
 use Rattle.paving.specs.Sheet.{Task, State, opening, places, roll, free, pieces}
 use Rattle.paving.specs.Steps.{Entry, labelled, step-entries, step-back, stepped}
 use Rattle.paving.specs.Turns.{one-taken, left-by, after-turns}
@@ -20,7 +21,6 @@ use Rattle.paving.specs.declared.records.Record.{Record}
 use Rattle.paving.specs.declared.turns.Turn.{Turn}
 use Rattle.paving.proofs.Playing.{Keeps, turns-keep}
 use Rattle.paving.proofs.Stepping.{Says, Steep, Makes, entry-pieces, step-makes}
-use Rattle.paving.proofs.Sums.{times-append, times-cons, times-single}
 
 -- labels count on from n
 abbrev pub Numbered : {P : Type 0} → ℕ → List (Record P) → Type 0
@@ -33,6 +33,7 @@ pub record Kept {P : Type 0} (t : Task P) (set : ℕ → Bool) (s : State P) : T
   pub steep : Steep (t .maps) (s .waiting)
   pub steps-left : 2 * total (t .maps) (s .waiting) + s .steps + 1 ≤ 2 * t .maps .count (t .start) + length (s .waiting)
   pub numbered : Numbered 0 (s .made)
+  pub few-made : length (s .made) ≤ 9 * s .steps
   pub taken-made : s .taken ≤ length (s .made)
   pub fits : length (roll s) ≤ places
 
@@ -74,6 +75,7 @@ module _ {P : Type 0} (t : Task P) (l : Laws (t .maps)) (set : ℕ → Bool) (so
         steep = (omega (arith, l .height-most (t .start)), tt);
         steps-left = omega (arith, sumBy-cons (t .maps .count) (t .start) []);
         numbered = tt;
+        few-made = omega arith;
         taken-made = omega arith;
         fits = omega arith;
       }
@@ -89,6 +91,7 @@ module _ {P : Type 0} (t : Task P) (l : Laws (t .maps)) (set : ℕ → Bool) (so
           steep = m .lower xs (subst (Steep (t .maps)) e (k .steep));
           steps-left = omega (arith, k .steps-left, ap (total (t .maps)) e, ap length e, sumBy-cons (t .maps .count) x xs, sumBy-append (t .maps .count) (step-back t x) xs, length-append (step-back t x) xs, m .less);
           numbered = numbered-append 0 (length (s .made)) (s .made) new (omega arith) (k .numbered) (labelled-numbered (length (s .made)) (step-entries t x));
+          few-made = omega (arith, k .few-made, length-append (s .made) new, labelled-length (length (s .made)) (step-entries t x), m .few);
           taken-made = omega (arith, k .taken-made, length-append (s .made) new);
           fits = omega (arith, k .fits, room, length-drop (s .taken) (s .made ++ new), length-append (s .made) new, labelled-length (length (s .made)) (step-entries t x), length-drop (s .taken) (s .made));
         }
@@ -101,6 +104,7 @@ module _ {P : Type 0} (t : Task P) (l : Laws (t .maps)) (set : ℕ → Bool) (so
           steep = k .steep;
           steps-left = k .steps-left;
           numbered = k .numbered;
+          few-made = k .few-made;
           taken-made = omega (arith, ap length e, length-drop (s .taken) (s .made));
           fits = omega (arith, k .fits, length-drop (s .taken) (s .made), length-drop (suc (s .taken)) (s .made));
         }

@@ -1,3 +1,4 @@
+pub mod Causing
 pub mod Histories
 pub mod Keeping
 pub mod Playing

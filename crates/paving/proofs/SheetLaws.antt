@@ -12,6 +12,7 @@ use Rattle.paving.specs.Laws.{SheetLaws, Order, PavingLaws}
 use Rattle.paving.specs.Sheet.{Task, task}
 use Rattle.paving.specs.Turns.{answers, after-turns}
 use Rattle.paving.specs.declared.turns.Turn.{Turn}
+use Rattle.paving.proofs.Causing.{causes-law}
 use Rattle.paving.proofs.Histories.{history-law}
 use Rattle.paving.proofs.Keeping.{kept-after}
 use Rattle.paving.proofs.Telling.{sum-law}
@@ -26,6 +27,7 @@ module _ {P : Type 0} (d : Maps P) (l : Laws d) (m : Meaning P) (sound : Sound d
         sum = sum-law t l (m .set) (after-turns t us) k;
         truth = truth-law t l (m .set) sound (after-turns t us) k;
         limits = limits-law t l (m .set) sound (after-turns t us) k;
+        causes = causes-law t (after-turns t us);
         history = history-law t l (m .set) sound us;
       }
 

@@ -20,12 +20,12 @@ use Rattle.domain.specs.Laws.{Laws}
 use Rattle.domain.specs.Maps.{Maps, points, times, total, Parts, Fits, Holds}
 use Rattle.contractor.specs.Meaning.{Meaning, meaning, Sound}
 use Rattle.contractor.proofs.Pieces.{count-within, alone}
+use Rattle.contractor.proofs.Sums.{times-cons, times-append, times-single, all-by-times, total-parts}
 use Rattle.paving.specs.Laws.{AllOf, NoneOf}
 use Rattle.paving.specs.Sheet.{Task}
 use Rattle.paving.specs.Steps.{Entry, entries, without, left-undecided, put-back, kept-entries, entries-at, back-at, step-entries, step-back}
 use Rattle.paving.specs.declared.classes.Class.{Class}
 use Rattle.paving.specs.declared.classes.Class.the-variants.{Inside, Outside, Undecided}
-use Rattle.paving.proofs.Sums.{times-cons, times-append, times-single, all-by-times, total-parts}
 
 -- what a record of that class says of its piece
 abbrev pub Says : {P : Type 0} → Task P → (ℕ → Bool) → Class → P → Type 0

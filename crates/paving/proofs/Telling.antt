@@ -18,6 +18,7 @@ use Rattle.domain.specs.Maps.{Maps, times, total, Parts}
 use Rattle.domain.specs.Refusals.{Given}
 use Rattle.domain.specs.declared.refusal.Refusal.{Refusal}
 use Rattle.domain.specs.declared.refusal.Refusal.the-variants.{NotAPoint}
+use Rattle.contractor.proofs.Sums.{times-cons, times-append, total-parts}
 use Rattle.paving.specs.Laws.{all-pieces, points-told, lying, Lies, times-lying, Sum}
 use Rattle.paving.specs.Sheet.{Task, State, roll, gone, pieces, of-class, put}
 use Rattle.paving.specs.Turns.{held, place-of, place-on, find, tally}
@@ -27,7 +28,7 @@ use Rattle.paving.specs.declared.places.Place.{Place}
 use Rattle.paving.specs.declared.places.Place.the-variants.{Waiting, Inside, Outside, Undecided, Taken}
 use Rattle.paving.specs.declared.records.Record.{Record}
 use Rattle.paving.proofs.Keeping.{Kept, pieces-times}
-use Rattle.paving.proofs.Sums.{times-cons, times-append, by-class, total-parts}
+use Rattle.paving.proofs.Sums.{by-class}
 
 -- one piece more of a class, or of another
 put-same : {P : Type 0} (c : Class) (p : P) (ps : List P) → put c c p ps ≡ p ∷ ps

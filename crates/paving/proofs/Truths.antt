@@ -12,6 +12,7 @@ use Rattle.scan.specs.Count.{bit}
 use Rattle.domain.specs.Laws.{Laws}
 use Rattle.domain.specs.Maps.{Maps, times, total}
 use Rattle.contractor.specs.Meaning.{meaning, Sound}
+use Rattle.contractor.proofs.Sums.{times-by-all, length-total}
 use Rattle.paving.specs.Laws.{Truth, Limits}
 use Rattle.paving.specs.Sheet.{Task, State, pieces, of-class, put}
 use Rattle.paving.specs.declared.classes.Class.{Class}
@@ -19,7 +20,7 @@ use Rattle.paving.specs.declared.classes.Class.the-variants.{Inside, Outside, 
 use Rattle.paving.specs.declared.records.Record.{Record}
 use Rattle.paving.proofs.Keeping.{Kept, numbered-at}
 use Rattle.paving.proofs.Stepping.{Says, Steep, step-makes}
-use Rattle.paving.proofs.Sums.{times-by-all, by-class, length-total}
+use Rattle.paving.proofs.Sums.{by-class}
 
 and-true : (a b : Bool) → b ≡ true → bit (a && b) ≡ bit a
 and-true true b e = ap bit e
@@ -98,6 +99,7 @@ module _ {P : Type 0} (t : Task P) (l : Laws (t .maps)) (set : ℕ → Bool) (so
         few-steps = omega (arith, k .steps-left, length-total (t .maps) l (s .waiting));
         few-waiting = steep-length (t .maps) (s .waiting) (k .steep);
         few-records = λ x. step-makes t l set sound x .few;
+        few-made = k .few-made;
         fits-roll = k .fits;
         labels = λ i r h. omega (arith, numbered-at 0 (s .made) (k .numbered) i r h);
       }

@@ -4,17 +4,23 @@ use mathlib.Core.Bool.{Bool, true, false, _&&_}
 use mathlib.Core.List.{List, [], _∷_, _++_}
 use mathlib.Core.Path.{_≡_}
 use lib.ListN.{length, getD}
+use mathlib.Core.Logic.{_⊎_}
+use Rattle.std.specs.Options.{Cases}
+use Rattle.std.specs.Results
+use Rattle.std.specs.declared.result.Result.the-variants.{Ok, Err}
 use Rattle.std.specs.shelf.Lists.{All}
 use Rattle.scan.specs.Count.{bit}
 use Rattle.domain.specs.Maps.{Maps, Parts, times, total}
-use Rattle.domain.specs.Refusals.{Given}
+use Rattle.domain.specs.declared.refusal.Refusal.{Refusal}
+use Rattle.domain.specs.Refusals.{Given, code}
 use Rattle.contractor.specs.Meaning.{Meaning}
 use Rattle.contractor.specs.Rearranged.{Rearranged}
-use Rattle.paving.specs.Sheet.{Task, task, State, places, roll, gone, pieces, of-class}
-use Rattle.paving.specs.Steps.{step-entries}
-use Rattle.paving.specs.Turns.{find, tally, answers, after-turns}
+use Rattle.paving.specs.Sheet.{Task, task, State, Outcome, places, roll, gone, free, pieces, of-class}
+use Rattle.paving.specs.Steps.{step-entries, step}
+use Rattle.paving.specs.Turns.{take-oldest, run, find, tally, turn, answers, after-turns}
 use Rattle.paving.specs.declared.answers.Answer.{Answer}
 use Rattle.paving.specs.declared.answers.Answer.the-variants.{Stepped, Ran as RanFor, Taken as Took, Found, Tallied, Refused}
+use Rattle.paving.specs.declared.answers.Ran.{Ran}
 use Rattle.paving.specs.declared.classes.Class.{Class}
 use Rattle.paving.specs.declared.classes.Class.the-variants.{Inside as inside, Outside as outside, Undecided as undecided}
 use Rattle.paving.specs.declared.places.Place.{Place}
@@ -86,6 +92,8 @@ pub record Limits {P : Type 0} (t : Task P) (s : State P) : Type 0 where
   pub few-steps : s .steps + 1 ≤ 2 * t .maps .count (t .start)
   pub few-waiting : length (s .waiting) ≤ 25
   pub few-records : (x : P) → length (step-entries t x) ≤ 9
+  -- there are no more records than these steps made
+  pub few-made : length (s .made) ≤ 9 * s .steps
   pub fits-roll : length (roll s) ≤ places
   -- a record's label is its place among all that were made
   pub labels : (k : ℕ) (r : Record P) → k < length (s .made) → getD (s .made) k r .label ≡ k
@@ -115,11 +123,39 @@ pub record History {P : Type 0} (t : Task P) (us : List Turn) : Type 0 where
   pub taken-given : gone (after-turns t us) ≡ takes (answers t us)
   pub steps-told : after-turns t us .steps ≡ accepted (answers t us)
 
+-- the next step has a piece to take, and places for its records
+abbrev pub Room : {P : Type 0} → Task P → State P → List P → Type 0
+Room t s [] = ⊥
+Room t s (x ∷ xs) = length (step-entries t x) ≤ free s
+
+-- it has a piece to take, and too few places
+abbrev pub Crowded : {P : Type 0} → Task P → State P → List P → Type 0
+Crowded t s [] = ⊥
+Crowded t s (x ∷ xs) = free s < length (step-entries t x)
+
+-- so many accepted steps lead from one state to another
+pub data Accepts {P : Type 0} (t : Task P) : ℕ → State P → State P → Type 0 where
+  none : {s : State P} → Accepts t 0 s s
+  more : {n : ℕ} {s u : State P} (r : Outcome ℕ P) → step t s ≡ Ok r → Accepts t n (r .after) u → Accepts t (suc n) s u
+
+-- a run of m: steps until m are accepted, or one is refused
+pub record Runs {P : Type 0} (t : Task P) (m : ℕ) (s : State P) (r : Outcome Ran P) : Type 0 where
+  pub accepts : Accepts t (r .value .accepted) s (r .after)
+  pub stops : Cases (r .value .refusal) (r .value .accepted ≡ m) (λ e. (r .value .accepted < m) × (step t (r .after) ≡ Err e))
+
+-- Each refusal has its one cause, and changes nothing. A run is never refused.
+pub record Causes {P : Type 0} (t : Task P) (s : State P) : Type 0 where
+  pub step-by : Results.Cases (step t s) (λ _. Room t s (s .waiting)) (λ e. ((code e ≡ 11) × (s .waiting ≡ [])) ⊎ ((code e ≡ 12) × Crowded t s (s .waiting)))
+  pub take-by : Given (take-oldest s) 13 (roll s ≡ [] → ⊥) (λ r. (rs : List (Record P)) × (roll s ≡ r .value ∷ rs))
+  pub run-by : (m : ℕ) → Runs t m s (run t m s)
+  pub unchanged : (u : Turn) (e : Refusal) → turn t u s .value ≡ Refused e → turn t u s .after ≡ s
+
 -- All of them, after a list of turns.
 pub record SheetLaws {P : Type 0} (t : Task P) (set : ℕ → Bool) (us : List Turn) : Type 0 where
   pub sum : Sum t (after-turns t us)
   pub truth : Truth t set (after-turns t us)
   pub limits : Limits t (after-turns t us)
+  pub causes : Causes t (after-turns t us)
   pub history : History t us
 
 -- Sheets of one start and grain over rearranged contractors answer every list of turns alike.
