@@ -3,3 +3,4 @@ pub mod Numbers
 pub mod Sheet
 pub mod Steps
 pub mod Turns
+pub mod Worked

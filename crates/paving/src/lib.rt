@@ -6,3 +6,4 @@ pub mod places;
 pub mod records;
 pub mod tallies;
 pub mod turns;
+pub mod worked;
