@@ -1,10 +1,15 @@
 -- The laws of layers and of rearranged contractors, gathered.
+use mathlib.Core.List.{map}
+use mathlib.Core.Path.{subst₂}
+use Rattle.std.proofs.shelf.Lists.{map-id}
 use Rattle.domain.specs.Laws.{Laws}
 use Rattle.domain.specs.Maps.{Maps}
-use Rattle.contractor.specs.Theorems.{LayersSound, FixedSettles, RearrangedAlike}
+use Rattle.contractor.specs.Rearranged.{Paired}
+use Rattle.contractor.specs.Theorems.{LayersSound, FixedSettles, RearrangedAlike, ShuffledPaired}
 use Rattle.contractor.proofs.Fixing.{fixed-sound, fixed-keep, fixed-shed, settles-once}
 use Rattle.contractor.proofs.Joining.{both-sound, either-sound, not-sound}
 use Rattle.contractor.proofs.Rearranging.{rearranged-alike}
+use Rattle.contractor.proofs.Reordering.{shuffled-paired}
 use Rattle.contractor.proofs.Relaxing.{relaxed-sound}
 
 module _ {P : Type 0} (d : Maps P) (l : Laws d) where
@@ -23,3 +28,6 @@ module _ {P : Type 0} (d : Maps P) (l : Laws d) where
 
   pub all-rearranged-alike : RearrangedAlike d
   all-rearranged-alike a b r = rearranged-alike d l r
+
+  pub all-shuffled-paired : ShuffledPaired d
+  all-shuffled-paired ms ns h = subst₂ (Paired d) (map-id ms) (map-id ns) (shuffled-paired d (λ m. m) ms ns h)

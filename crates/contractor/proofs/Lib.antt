@@ -4,4 +4,5 @@ pub mod Laws
 pub mod Pieces
 pub mod Rearranging
 pub mod Relaxing
+pub mod Reordering
 pub mod Sums

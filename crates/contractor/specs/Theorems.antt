@@ -5,10 +5,11 @@ use mathlib.Core.Path.{_≡_}
 use lib.ListN.{length}
 use Rattle.std.specs.declared.option.Option.{Option}
 use Rattle.std.specs.shelf.Lists.{All}
+use Rattle.std.specs.shelf.Sorted.{Shuffled}
 use Rattle.domain.specs.Maps.{Maps}
 use Rattle.contractor.specs.Layers.{Settles, both, either, opposite, relaxed, fixed}
 use Rattle.contractor.specs.Meaning.{Meaning, Sound}
-use Rattle.contractor.specs.Rearranged.{Alike, Rearranged}
+use Rattle.contractor.specs.Rearranged.{Alike, Rearranged, Paired}
 
 -- A layer over contractors is a contractor.
 pub record LayersSound {P : Type 0} (d : Maps P) : Type 0 where
@@ -27,3 +28,7 @@ pub record FixedSettles {P : Type 0} (d : Maps P) : Type 0 where
 -- Rearranged contractors have the same maps.
 abbrev pub RearrangedAlike : {P : Type 0} → Maps P → Type 0
 RearrangedAlike {P} d = (a b : Meaning P) → Rearranged d a b → Alike a b
+
+-- The same members in another order pair off.
+abbrev pub ShuffledPaired : {P : Type 0} → Maps P → Type 0
+ShuffledPaired {P} d = (ms ns : List (Meaning P)) → Shuffled ms ns → Paired d ms ns
