@@ -1,13 +1,13 @@
 -- Fixed: its turns come to an end, at the one value that its rule names, and it keeps the laws.
-use Prim.Native.Nat.{ℕ, zero, suc, _+_, _≤_, _<_}
+use Prim.Native.Nat.{ℕ, zero, suc, _≤_, _<_}
 use native.Mathlib.Omega.{arith}
 use mathlib.Core.Bool.{Bool, true, false}
-use mathlib.Core.Logic.{_⊎_, inl, inr}
+use mathlib.Core.Logic.{inl, inr}
 use mathlib.Core.Path.{_≡_, refl, sym, ap, subst, _∙_}
 use lib.Dec.{eqb}
 use Rattle.std.specs.declared.option.Option.{Option}
 use Rattle.std.specs.declared.option.Option.the-variants.{Some, None}
-use Rattle.std.proofs.shelf.Tests.{cases-order, cases-bool, eqb-true, eqb-false}
+use Rattle.std.proofs.shelf.Tests.{cases-order, eqb-true, eqb-false}
 use Rattle.domain.specs.Laws.{Laws}
 use Rattle.domain.specs.Maps.{Maps, Fits, Holds}
 use Rattle.contractor.specs.Layers.{after, turned, Settles, settled, fixed}

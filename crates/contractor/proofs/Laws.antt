@@ -1,5 +1,4 @@
 -- The laws of layers and of rearranged contractors, gathered.
-use mathlib.Core.List.{map}
 use mathlib.Core.Path.{subst₂}
 use Rattle.std.proofs.shelf.Lists.{map-id}
 use Rattle.domain.specs.Laws.{Laws}

@@ -1,12 +1,12 @@
 -- What follows from a domain's laws for every domain: counts of sub-pieces, and answers that fit.
-use Prim.Native.Nat.{ℕ, zero, suc, _+_, _≤_, _<_}
+use Prim.Native.Nat.{ℕ, _≤_}
 use native.Mathlib.Omega.{arith}
 use mathlib.Core.Bool.{Bool, true, false}
-use mathlib.Core.Path.{_≡_, refl, sym, ap, subst, _∙_}
+use mathlib.Core.Path.{_≡_, refl, sym, ap, subst}
 use Rattle.std.specs.declared.option.Option.{Option}
 use Rattle.std.specs.declared.option.Option.the-variants.{Some, None}
 use Rattle.std.specs.Options.{Cases}
-use Rattle.scan.specs.Count.{bit, count-below}
+use Rattle.scan.specs.Count.{bit}
 use Rattle.scan.proofs.Counting.{sum-mono}
 use Rattle.domain.specs.Laws.{Laws}
 use Rattle.domain.specs.Maps.{Maps, points, Fits, Holds}

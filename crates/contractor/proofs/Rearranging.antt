@@ -1,7 +1,7 @@
 -- Rearranged contractors have the same maps.
-use Prim.Native.Nat.{ℕ, zero, suc, _+_, _-_, _≤_, _<_}
+use Prim.Native.Nat.{ℕ, _+_, _-_, _<_}
 use native.Mathlib.Omega.{arith}
-use mathlib.Core.Bool.{Bool, true, false}
+use mathlib.Core.Bool.{true, false}
 use mathlib.Core.List.{List, [], _∷_, _++_, map}
 use mathlib.Core.Path.{_≡_, refl, sym, ap, ap₂, subst, _∙_, fun-ext}
 use lib.Dec.{ltb}
@@ -14,7 +14,7 @@ use Rattle.std.proofs.shelf.Lists.{map-append, length-append}
 use Rattle.std.proofs.shelf.Sorted.{shuffled-refl, shuffled-cons, shuffled-swap, shuffled-trans}
 use Rattle.domain.specs.Laws.{Laws}
 use Rattle.domain.specs.Maps.{Maps, Inside}
-use Rattle.contractor.specs.Layers.{after, given, nothings, gathered, settled, all-kept, all-shed, both, either, opposite, relaxed, fixed}
+use Rattle.contractor.specs.Layers.{after, given, nothings, gathered, settled, all-kept, all-shed, both, either, relaxed, fixed}
 use Rattle.contractor.specs.Meaning.{Meaning, Sound}
 use Rattle.contractor.specs.Rearranged.{Alike, Rearranged, Paired}
 use Rattle.contractor.specs.Rearranged.Rearranged.{same, both-of, either-of, not-of, fixed-of, relaxed-of}

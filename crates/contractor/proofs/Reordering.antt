@@ -1,5 +1,5 @@
 -- The same members in another order pair off.
-use Prim.Native.Nat.{ℕ, zero, suc, _≤_, _<_}
+use Prim.Native.Nat.{ℕ, zero, suc, _<_}
 use native.Mathlib.Omega.{arith}
 use mathlib.Core.List.{List, [], _∷_, _++_, map}
 use mathlib.Core.Logic.{_⊎_, inl, inr}
@@ -11,7 +11,7 @@ use Rattle.std.proofs.shelf.Lists.{append-assoc, map-append}
 use Rattle.std.proofs.shelf.Sorted.{shuffled-keeps}
 use Rattle.domain.specs.Maps.{Maps}
 use Rattle.contractor.specs.Meaning.{Meaning}
-use Rattle.contractor.specs.Rearranged.{Rearranged, Paired}
+use Rattle.contractor.specs.Rearranged.{Paired}
 use Rattle.contractor.specs.Rearranged.Rearranged.{same}
 use Rattle.contractor.specs.Rearranged.Paired.{none as no-pairs, one as one-pair}
 

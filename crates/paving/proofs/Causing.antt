@@ -1,10 +1,10 @@
 -- Each refusal has its one cause, and a run is so many accepted steps.
-use Prim.Native.Nat.{ℕ, zero, suc, _+_, _≤_, _<_}
+use Prim.Native.Nat.{ℕ, zero, suc, _<_}
 use native.Mathlib.Omega.{arith}
 use mathlib.Core.Bool.{Bool, true, false}
 use mathlib.Core.List.{List, [], _∷_}
 use mathlib.Core.Logic.{_⊎_, inl, inr}
-use mathlib.Core.Path.{_≡_, refl, sym, ap, subst, _∙_}
+use mathlib.Core.Path.{_≡_, refl, ap}
 use lib.Dec.{ltb}
 use lib.ListN.{length}
 use Rattle.std.specs.Options.{Cases}
@@ -17,13 +17,13 @@ use Rattle.std.proofs.shelf.Tests.{ltb-true, ltb-false}
 use Rattle.domain.specs.Refusals.{Given, code}
 use Rattle.domain.specs.declared.refusal.Refusal.{Refusal}
 use Rattle.domain.specs.declared.refusal.Refusal.the-variants.{RollFull}
-use Rattle.paving.specs.Laws.{Room, Crowded, Accepts, Runs, Causes}
+use Rattle.paving.specs.Laws.{Room, Crowded, Runs, Causes}
 use Rattle.paving.specs.Laws.Accepts.{none, more}
 use Rattle.paving.specs.Sheet.{Task, State, Outcome, outcome, roll, free}
 use Rattle.paving.specs.Steps.{step-entries, stepped, step-on, step}
-use Rattle.paving.specs.Turns.{ran-on, answered, found, take-from, take-oldest, run, find, turn}
+use Rattle.paving.specs.Turns.{ran-on, answered, take-from, take-oldest, run, turn}
 use Rattle.paving.specs.declared.answers.Answer.{Answer}
-use Rattle.paving.specs.declared.answers.Answer.the-variants.{Stepped, Ran as RanFor, Taken as Took, Found, Tallied, Refused}
+use Rattle.paving.specs.declared.answers.Answer.the-variants.{Stepped, Taken as Took, Refused}
 use Rattle.paving.specs.declared.answers.Ran.{Ran}
 use Rattle.paving.specs.declared.records.Record.{Record}
 use Rattle.paving.specs.declared.turns.Turn.{Turn}

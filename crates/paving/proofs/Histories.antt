@@ -1,16 +1,15 @@
 -- What a sheet knows of its turns is what their answers said.
-use Prim.Native.Nat.{ℕ, zero, suc, _+_, _≤_, _<_}
-use native.Mathlib.Numerals.{add-one}
+use Prim.Native.Nat.{ℕ, zero, suc, _+_}
 use native.Mathlib.Omega.{arith}
 use mathlib.Core.Bool.{Bool, true, false}
 use mathlib.Core.List.{List, [], _∷_, _++_}
-use mathlib.Core.Path.{_≡_, refl, sym, ap, subst, _∙_}
+use mathlib.Core.Path.{_≡_, refl, sym, ap, _∙_}
 use lib.Dec.{ltb}
-use lib.ListN.{length, getD, take, drop}
+use lib.ListN.{length, take, drop}
 use Rattle.std.specs.declared.result.Result.{Result}
 use Rattle.std.specs.declared.result.Result.the-variants.{Ok, Err}
 use Rattle.std.specs.Results.{Cases}
-use Rattle.std.proofs.shelf.Lists.{append-nil, append-assoc, take-append-le, take-append-drop, take-at, length-drop, length-take-le}
+use Rattle.std.proofs.shelf.Lists.{append-nil, append-assoc, take-append-le}
 use Rattle.domain.specs.Laws.{Laws}
 use Rattle.domain.specs.declared.refusal.Refusal.{Refusal}
 use Rattle.domain.specs.declared.refusal.Refusal.the-variants.{RollFull}
@@ -18,7 +17,7 @@ use Rattle.contractor.specs.Meaning.{meaning, Sound}
 use Rattle.paving.specs.Laws.{takes, accepted, History}
 use Rattle.paving.specs.Sheet.{Task, State, Outcome, outcome, opening, roll, gone, free}
 use Rattle.paving.specs.Steps.{labelled, step-entries, stepped, step-on, step}
-use Rattle.paving.specs.Turns.{ran-on, answered, one-taken, take-from, take-oldest, run, found, find, turn, left-by, after-turns, answers-from, answers}
+use Rattle.paving.specs.Turns.{ran-on, answered, take-from, run, found, find, turn, left-by, answers-from}
 use Rattle.paving.specs.declared.answers.Answer.{Answer}
 use Rattle.paving.specs.declared.answers.Answer.the-variants.{Stepped, Ran as RanFor, Taken as Took, Found, Tallied, Refused}
 use Rattle.paving.specs.declared.answers.Ran.{Ran}
@@ -27,7 +26,7 @@ use Rattle.paving.specs.declared.records.Record.{Record}
 use Rattle.paving.specs.declared.turns.Turn.{Turn}
 use Rattle.paving.specs.declared.turns.Turn.the-variants.{Step, Run, Take, Find, Tally}
 use Rattle.paving.proofs.Keeping.{Kept, keeps, kept-opening}
-use Rattle.paving.proofs.Playing.{Keeps, step-keeps, turn-keeps}
+use Rattle.paving.proofs.Playing.{step-keeps, turn-keeps}
 
 -- what an answer adds to what is known of the turns
 record Adds {P : Type 0} (s : State P) (a : Answer P) (after : State P) : Type 0 where

@@ -1,26 +1,26 @@
 -- What a sheet keeps: the start shared out, records that are true, a steep pile, steps left, labels in order.
-use Prim.Native.Nat.{ℕ, zero, suc, _+_, _-_, _*_, _≤_, _<_}
+use Prim.Native.Nat.{ℕ, zero, suc, _+_, _*_, _≤_, _<_}
 use native.Mathlib.Omega.{arith}
-use mathlib.Core.Bool.{Bool, true, false}
-use mathlib.Core.List.{List, [], _∷_, _++_, map}
-use mathlib.Core.Path.{_≡_, refl, sym, ap, ap₂, subst, _∙_}
-use lib.ListN.{length, getD, take, drop}
+use mathlib.Core.Bool.{Bool, true}
+use mathlib.Core.List.{List, [], _∷_, _++_}
+use mathlib.Core.Path.{_≡_, refl, sym, ap, subst, _∙_}
+use lib.ListN.{length, getD}
 use Rattle.std.specs.shelf.Lists.{All}
 use Rattle.std.proofs.shelf.Elements.{all-append}
 use Rattle.std.proofs.shelf.Lists.{length-append, length-drop, map-append}
 use Rattle.std.proofs.shelf.Sums.{sumBy-cons, sumBy-append}
 use Rattle.scan.specs.Count.{bit}
 use Rattle.domain.specs.Laws.{Laws}
-use Rattle.domain.specs.Maps.{Maps, times, total}
+use Rattle.domain.specs.Maps.{Maps, Inside as Within, times, total}
 use Rattle.contractor.specs.Meaning.{meaning, Sound}
 use Rattle.contractor.proofs.Sums.{times-append, times-cons, times-single}
 use Rattle.paving.specs.Sheet.{Task, State, opening, places, roll, free, pieces}
 use Rattle.paving.specs.Steps.{Entry, labelled, step-entries, step-back, stepped}
-use Rattle.paving.specs.Turns.{one-taken, left-by, after-turns}
+use Rattle.paving.specs.Turns.{one-taken, after-turns}
 use Rattle.paving.specs.declared.records.Record.{Record}
 use Rattle.paving.specs.declared.turns.Turn.{Turn}
 use Rattle.paving.proofs.Playing.{Keeps, turns-keep}
-use Rattle.paving.proofs.Stepping.{Says, Steep, Makes, entry-pieces, step-makes}
+use Rattle.paving.proofs.Stepping.{Says, Steep, entry-pieces, within-up, step-makes}
 
 -- labels count on from n
 abbrev pub Numbered : {P : Type 0} → ℕ → List (Record P) → Type 0
@@ -29,6 +29,8 @@ Numbered n (r ∷ rs) = (r .label ≡ n) × Numbered (suc n) rs
 
 pub record Kept {P : Type 0} (t : Task P) (set : ℕ → Bool) (s : State P) : Type 0 where
   pub shares : (n : ℕ) → times (t .maps) n (pieces (s .made)) + times (t .maps) n (s .waiting) ≡ bit (t .maps .holds (t .start) n)
+  pub made-within : Within (t .maps) (t .start) (pieces (s .made))
+  pub waiting-within : Within (t .maps) (t .start) (s .waiting)
   pub true-of : All (λ r. Says t set (r .class) (r .piece)) (s .made)
   pub steep : Steep (t .maps) (s .waiting)
   pub steps-left : 2 * total (t .maps) (s .waiting) + s .steps + 1 ≤ 2 * t .maps .count (t .start) + length (s .waiting)
@@ -71,6 +73,8 @@ module _ {P : Type 0} (t : Task P) (l : Laws (t .maps)) (set : ℕ → Bool) (so
   kept-opening =
       record {
         shares = λ n. omega (arith, times-single (t .maps) n (t .start));
+        made-within = tt;
+        waiting-within = (l .reflexive (t .start), tt);
         true-of = tt;
         steep = (omega (arith, l .height-most (t .start)), tt);
         steps-left = omega (arith, sumBy-cons (t .maps .count) (t .start) []);
@@ -84,9 +88,14 @@ module _ {P : Type 0} (t : Task P) (l : Laws (t .maps)) (set : ℕ → Bool) (so
     kept-step : (x : P) (xs : List P) → s .waiting ≡ x ∷ xs → length (step-entries t x) ≤ free s → Kept t set (stepped t s x xs)
     kept-step x xs e room =
         let m = step-makes t l set sound x in
+        let ws = subst (Within (t .maps) (t .start)) e (k .waiting-within) in
         let new = labelled (length (s .made)) (step-entries t x) in
         record {
           shares = λ n. omega (arith, k .shares n, ap (times (t .maps) n) e, times-cons (t .maps) n x xs, times-append (t .maps) n (step-back t x) xs, m .shares n, pieces-times (t .maps) n (s .made) new, ap (times (t .maps) n) (labelled-pieces (length (s .made)) (step-entries t x)));
+          made-within =
+              subst (Within (t .maps) (t .start)) (ap (λ ps. pieces (s .made) ++ ps) (sym (labelled-pieces (length (s .made)) (step-entries t x))) ∙ sym (map-append (λ r. r .piece) (s .made) new))
+              (all-append (λ p. t .maps .within p (t .start) ≡ true) (pieces (s .made)) (entry-pieces (step-entries t x)) (k .made-within) (within-up (t .maps) l (t .start) x (entry-pieces (step-entries t x)) (ws .0) (m .records-within)));
+          waiting-within = all-append (λ p. t .maps .within p (t .start) ≡ true) (step-back t x) xs (within-up (t .maps) l (t .start) x (step-back t x) (ws .0) (m .back-within)) (ws .1);
           true-of = all-append (λ r. Says t set (r .class) (r .piece)) (s .made) new (k .true-of) (labelled-says t set (length (s .made)) (step-entries t x) (m .true-of));
           steep = m .lower xs (subst (Steep (t .maps)) e (k .steep));
           steps-left = omega (arith, k .steps-left, ap (total (t .maps)) e, ap length e, sumBy-cons (t .maps .count) x xs, sumBy-append (t .maps .count) (step-back t x) xs, length-append (step-back t x) xs, m .less);
@@ -100,6 +109,8 @@ module _ {P : Type 0} (t : Task P) (l : Laws (t .maps)) (set : ℕ → Bool) (so
     kept-take r rs e =
         record {
           shares = k .shares;
+          made-within = k .made-within;
+          waiting-within = k .waiting-within;
           true-of = k .true-of;
           steep = k .steep;
           steps-left = k .steps-left;

@@ -1,9 +1,8 @@
 -- One induction for all: what every accepted step and every take keeps holds after every list of turns.
-use Prim.Native.Nat.{ℕ, zero, suc, _+_, _≤_, _<_}
-use native.Mathlib.Omega.{arith}
+use Prim.Native.Nat.{ℕ, zero, suc, _≤_}
 use mathlib.Core.Bool.{Bool, true, false}
 use mathlib.Core.List.{List, [], _∷_, _++_}
-use mathlib.Core.Path.{_≡_, refl, sym, ap, subst, _∙_}
+use mathlib.Core.Path.{_≡_, refl, ap}
 use lib.Dec.{ltb}
 use lib.ListN.{length}
 use Rattle.std.specs.declared.result.Result.{Result}
@@ -11,14 +10,13 @@ use Rattle.std.specs.declared.result.Result.the-variants.{Ok, Err}
 use Rattle.std.specs.Results.{Cases}
 use Rattle.std.proofs.shelf.Tests.{ltb-false}
 use Rattle.domain.specs.declared.refusal.Refusal.{Refusal}
-use Rattle.domain.specs.declared.refusal.Refusal.the-variants.{NothingWaiting, RollFull}
-use Rattle.paving.specs.Sheet.{Task, State, Outcome, outcome, opening, roll, free}
+use Rattle.domain.specs.declared.refusal.Refusal.the-variants.{RollFull}
+use Rattle.paving.specs.Sheet.{Task, State, Outcome, outcome, roll, free}
 use Rattle.paving.specs.Steps.{step-entries, stepped, step-on, step}
-use Rattle.paving.specs.Turns.{ran-on, answered, one-taken, take-from, take-oldest, run, turn, left-by, after-turns, answers-from, answers}
+use Rattle.paving.specs.Turns.{ran-on, answered, one-taken, take-from, take-oldest, run, turn, left-by, answers-from}
 use Rattle.paving.specs.declared.answers.Answer.{Answer}
-use Rattle.paving.specs.declared.answers.Answer.the-variants.{Stepped, Taken as Took, Found, Refused}
+use Rattle.paving.specs.declared.answers.Answer.the-variants.{Stepped, Taken as Took}
 use Rattle.paving.specs.declared.answers.Ran.{Ran}
-use Rattle.paving.specs.declared.places.Place.{Place}
 use Rattle.paving.specs.declared.records.Record.{Record}
 use Rattle.paving.specs.declared.turns.Turn.{Turn}
 use Rattle.paving.specs.declared.turns.Turn.the-variants.{Step, Run, Take, Find, Tally}

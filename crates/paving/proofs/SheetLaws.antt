@@ -6,10 +6,10 @@ use Rattle.std.specs.declared.option.Option.{Option}
 use Rattle.domain.specs.Laws.{Laws}
 use Rattle.domain.specs.Maps.{Maps}
 use Rattle.contractor.specs.Meaning.{Meaning, meaning, Sound}
-use Rattle.contractor.specs.Rearranged.{Alike, Rearranged}
+use Rattle.contractor.specs.Rearranged.{Alike}
 use Rattle.contractor.proofs.Rearranging.{rearranged-alike}
 use Rattle.paving.specs.Laws.{SheetLaws, Order, PavingLaws}
-use Rattle.paving.specs.Sheet.{Task, task}
+use Rattle.paving.specs.Sheet.{task}
 use Rattle.paving.specs.Turns.{answers, after-turns}
 use Rattle.paving.specs.declared.turns.Turn.{Turn}
 use Rattle.paving.proofs.Causing.{causes-law}

@@ -1,9 +1,9 @@
 -- What a step makes of a piece: parts that share it out, true of the set, few and lower.
-use Prim.Native.Nat.{ℕ, zero, suc, _+_, _*_, _≤_, _<_}
+use Prim.Native.Nat.{ℕ, _+_, _*_, _≤_, _<_}
 use native.Mathlib.Omega.{arith}
 use mathlib.Core.Bool.{Bool, true, false}
 use mathlib.Core.List.{List, [], _∷_, _++_, map}
-use mathlib.Core.Logic.{_⊎_, inl, inr}
+use mathlib.Core.Logic.{inl, inr}
 use mathlib.Core.Path.{_≡_, refl, sym, ap, ap₂, subst, _∙_}
 use lib.Dec.{leb, eqb}
 use lib.ListN.{length}
@@ -12,18 +12,18 @@ use Rattle.std.specs.declared.option.Option.the-variants.{Some, None}
 use Rattle.std.specs.shelf.Lists.{All}
 use Rattle.std.proofs.shelf.Elements.{all-append, all-map, all-weaker}
 use Rattle.std.proofs.shelf.Lists.{length-append, length-map, map-append}
-use Rattle.std.proofs.shelf.Sums.{sumBy-cons, sumBy-append}
-use Rattle.std.proofs.shelf.Tests.{cases-bool, cases-eq, both-ways, eqb-true, eqb-false, leb-true, leb-false}
+use Rattle.std.proofs.shelf.Sums.{sumBy-cons}
+use Rattle.std.proofs.shelf.Tests.{cases-bool, cases-eq, eqb-true, eqb-false, leb-true}
 use Rattle.scan.specs.Count.{bit}
-use Rattle.scan.proofs.Counting.{bit-le, bit-true, bit-false, count-some}
+use Rattle.scan.proofs.Counting.{bit-le, bit-true, count-some}
 use Rattle.domain.specs.Laws.{Laws}
-use Rattle.domain.specs.Maps.{Maps, points, times, total, Parts, Fits, Holds}
-use Rattle.contractor.specs.Meaning.{Meaning, meaning, Sound}
+use Rattle.domain.specs.Maps.{Maps, Inside as Within, points, times, total, Fits, Holds}
+use Rattle.contractor.specs.Meaning.{meaning, Sound}
 use Rattle.contractor.proofs.Pieces.{count-within, alone}
 use Rattle.contractor.proofs.Sums.{times-cons, times-append, times-single, all-by-times, total-parts}
-use Rattle.paving.specs.Laws.{AllOf, NoneOf}
+use Rattle.paving.specs.Laws.{AllOf, NoneOf, Small}
 use Rattle.paving.specs.Sheet.{Task}
-use Rattle.paving.specs.Steps.{Entry, entries, without, left-undecided, put-back, kept-entries, entries-at, back-at, step-entries, step-back}
+use Rattle.paving.specs.Steps.{Entry, entries, without, left-undecided, put-back, entries-at, back-at, step-entries, step-back}
 use Rattle.paving.specs.declared.classes.Class.{Class}
 use Rattle.paving.specs.declared.classes.Class.the-variants.{Inside, Outside, Undecided}
 
@@ -31,7 +31,7 @@ use Rattle.paving.specs.declared.classes.Class.the-variants.{Inside, Outside, 
 abbrev pub Says : {P : Type 0} → Task P → (ℕ → Bool) → Class → P → Type 0
 Says t set Inside p = AllOf (t .maps) set p
 Says t set Outside p = NoneOf (t .maps) set p
-Says t set Undecided p = 1 < t .grain
+Says t set Undecided p = Small t p
 
 -- each waiting piece has as many below it as its height leaves room for
 abbrev pub Steep : {P : Type 0} → Maps P → List P → Type 0
@@ -44,6 +44,8 @@ entry-pieces es = map (λ e. e .piece) es
 -- What a step makes of x: its records, and what goes back on the pile.
 pub record Makes {P : Type 0} (t : Task P) (set : ℕ → Bool) (x : P) (es : List (Entry P)) (back : List P) : Type 0 where
   pub shares : (n : ℕ) → times (t .maps) n (entry-pieces es) + times (t .maps) n back ≡ bit (t .maps .holds x n)
+  pub records-within : Within (t .maps) x (entry-pieces es)
+  pub back-within : Within (t .maps) x back
   pub true-of : All (λ e. Says t set (e .class) (e .piece)) es
   pub few : length es ≤ 9
   pub lower : (xs : List P) → Steep (t .maps) (x ∷ xs) → Steep (t .maps) (back ++ xs)
@@ -74,6 +76,10 @@ module _ {P : Type 0} (outs ins unds : List P) where
   three-length =
       omega (arith, length-append (entries Outside outs) (entries Inside ins ++ entries Undecided unds), length-append (entries Inside ins) (entries Undecided unds), length-entries Outside outs, length-entries Inside ins, length-entries Undecided unds)
 
+-- sub-pieces of a sub-piece
+pub within-up : {P : Type 0} (d : Maps P) (l : Laws d) (x y : P) (ps : List P) → d .within y x ≡ true → Within d y ps → Within d x ps
+within-up d l x y ps w = all-weaker (λ p. d .within p y ≡ true) (λ p. d .within p x ≡ true) (λ p v. l .transitive p y x v w) ps
+
 -- the three fates of a rest
 data RestOf {P : Type 0} (t : Task P) (r : P) : List P → List P → Type 0 where
   single : t .maps .count r ≡ 1 → RestOf t r [] (r ∷ [])
@@ -96,8 +102,13 @@ module _ {P : Type 0} (t : Task P) (l : Laws (t .maps)) where
 
   rest-decided : (set : ℕ → Bool) (r : P) (u b : List P) → RestOf t r u b → All (Says t set Undecided) u
   rest-decided set r u b (single e) = tt
-  rest-decided set r u b (small e f) = (omega (arith, l .larger r e), tt)
+  rest-decided set r u b (small e f) = ((e, f), tt)
   rest-decided set r u b (split e) = tt
+
+  rest-within : (r : P) (u b : List P) → RestOf t r u b → Within (t .maps) r u × Within (t .maps) r b
+  rest-within r u b (single e) = (tt, (l .reflexive r, tt))
+  rest-within r u b (small e f) = ((l .reflexive r, tt), tt)
+  rest-within r u b (split e) = (tt, l .halves-within r e)
 
   rest-few : (r : P) (u b : List P) → RestOf t r u b → length u ≤ 1
   rest-few r u b (single e) = omega arith
@@ -125,6 +136,16 @@ module _ {P : Type 0} (t : Task P) (l : Laws (t .maps)) where
     without-shares None f n = omega (arith, times-single (t .maps) n p)
     without-shares (Some r) f n =
         omega (arith, l .stripped p r f n, times-cons (t .maps) n r (t .maps .strips p r), rest-shares r (left-undecided t (Some r)) (put-back t (Some r)) (rest-of r) n)
+
+    without-within : (o : Option P) → Fits (t .maps) p o → Within (t .maps) p (without t p o)
+    without-within None f = (l .reflexive p, tt)
+    without-within (Some r) f = l .strips-within p r f
+
+    rests-within : (o : Option P) → Fits (t .maps) p o → Within (t .maps) p (left-undecided t o) × Within (t .maps) p (put-back t o)
+    rests-within None f = (tt, tt)
+    rests-within (Some r) f =
+        let w = rest-within r (left-undecided t (Some r)) (put-back t (Some r)) (rest-of r) in
+        (within-up (t .maps) l p r (left-undecided t (Some r)) f (w .0), within-up (t .maps) l p r (put-back t (Some r)) f (w .1))
 
     without-few : (o : Option P) → Fits (t .maps) p o → length (without t p o) + length (left-undecided t o) ≤ 5
     without-few None f = omega arith
@@ -201,6 +222,8 @@ module _ {P : Type 0} (t : Task P) (l : Laws (t .maps)) (set : ℕ → Bool) (s 
   makes-none x e =
       record {
         shares = λ n. omega (arith, times-single (t .maps) n x);
+        records-within = (l .reflexive x, tt);
+        back-within = tt;
         true-of = (outside-whole x e, tt);
         few = omega arith;
         lower = λ xs h. h .1;
@@ -211,6 +234,12 @@ module _ {P : Type 0} (t : Task P) (l : Laws (t .maps)) (set : ℕ → Bool) (s 
   makes-some x p o e f w g =
       record {
         shares = λ n. omega (arith, three-times (t .maps .strips x p) (without t p o) (left-undecided t o) (t .maps) n, l .stripped x p w n, times-cons (t .maps) n p (t .maps .strips x p), without-shares t l p o g n);
+        records-within =
+            subst (Within (t .maps) x) (sym (three-pieces (t .maps .strips x p) (without t p o) (left-undecided t o)))
+            (all-append (λ q. t .maps .within q x ≡ true) (t .maps .strips x p) (without t p o ++ left-undecided t o) (l .strips-within x p w)
+            (within-up (t .maps) l x p (without t p o ++ left-undecided t o) w
+            (all-append (λ q. t .maps .within q p ≡ true) (without t p o) (left-undecided t o) (without-within t l p o g) (rests-within t l p o g .0))));
+        back-within = within-up (t .maps) l x p (put-back t o) w (rests-within t l p o g .1);
         true-of =
             all-append (λ c. Says t set (c .class) (c .piece)) (entries Outside (t .maps .strips x p)) (entries Inside (without t p o) ++ entries Undecided (left-undecided t o))
             (says-entries Outside (t .maps .strips x p) (all-by-times (t .maps) (λ n. set n ≡ false) (t .maps .strips x p) (outside-strips x p e w)))

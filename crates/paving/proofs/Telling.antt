@@ -1,31 +1,29 @@
 -- The sum law: the start is shared out, tally adds up to it, and find gives the one place of a point.
-use Prim.Native.Nat.{ℕ, zero, suc, _+_, _*_, _≤_, _<_}
+use Prim.Native.Nat.{ℕ, _+_, _≤_, _<_}
 use native.Mathlib.Omega.{arith}
 use mathlib.Core.Bool.{Bool, true, false, cond, _||_}
-use mathlib.Core.List.{List, [], _∷_, _++_, map}
+use mathlib.Core.List.{List, [], _∷_, _++_}
 use mathlib.Core.Logic.{_⊎_, inl, inr}
 use mathlib.Core.Path.{_≡_, refl, sym, ap, subst, _∙_}
-use lib.ListN.{length, take, drop}
-use Rattle.std.specs.declared.result.Result.{Result}
 use Rattle.std.specs.declared.result.Result.the-variants.{Ok, Err}
-use Rattle.std.proofs.shelf.Lists.{take-append-drop}
+use Rattle.std.proofs.shelf.Elements.{all-append}
+use Rattle.std.proofs.shelf.Lists.{append-assoc, map-append, take-append-drop}
 use Rattle.std.proofs.shelf.Sums.{sumBy-append}
-use Rattle.std.proofs.shelf.Tests.{false≢true, or-cases, or-parts}
+use Rattle.std.proofs.shelf.Tests.{false≢true}
 use Rattle.scan.specs.Count.{bit}
-use Rattle.scan.proofs.Counting.{bit-le, bit-true, bit-false}
+use Rattle.scan.proofs.Counting.{bit-le, bit-true}
 use Rattle.domain.specs.Laws.{Laws}
-use Rattle.domain.specs.Maps.{Maps, times, total, Parts}
+use Rattle.domain.specs.Maps.{Maps, Inside as Within, times, total, Parts}
 use Rattle.domain.specs.Refusals.{Given}
-use Rattle.domain.specs.declared.refusal.Refusal.{Refusal}
 use Rattle.domain.specs.declared.refusal.Refusal.the-variants.{NotAPoint}
 use Rattle.contractor.proofs.Sums.{times-cons, times-append, total-parts}
-use Rattle.paving.specs.Laws.{all-pieces, points-told, lying, Lies, times-lying, Sum}
+use Rattle.paving.specs.Laws.{all-pieces, points-told, Counts, Lies, times-lying, Sum}
 use Rattle.paving.specs.Sheet.{Task, State, roll, gone, pieces, of-class, put}
 use Rattle.paving.specs.Turns.{held, place-of, place-on, find, tally}
 use Rattle.paving.specs.declared.classes.Class.{Class}
 use Rattle.paving.specs.declared.classes.Class.the-variants.{Inside as inside, Outside as outside, Undecided as undecided}
 use Rattle.paving.specs.declared.places.Place.{Place}
-use Rattle.paving.specs.declared.places.Place.the-variants.{Waiting, Inside, Outside, Undecided, Taken}
+use Rattle.paving.specs.declared.places.Place.the-variants.{Waiting, Taken}
 use Rattle.paving.specs.declared.records.Record.{Record}
 use Rattle.paving.proofs.Keeping.{Kept, pieces-times}
 use Rattle.paving.proofs.Sums.{by-class}
@@ -77,6 +75,12 @@ module _ {P : Type 0} (t : Task P) (l : Laws (t .maps)) (set : ℕ → Bool) (s 
   roll-times : (n : ℕ) → times (t .maps) n (pieces (gone s)) + times (t .maps) n (pieces (roll s)) ≡ times (t .maps) n (pieces (s .made))
   roll-times n = sym (pieces-times (t .maps) n (gone s) (roll s)) ∙ ap (λ rs. times (t .maps) n (pieces rs)) (take-append-drop (s .taken) (s .made))
 
+  within : Within (t .maps) (t .start) (all-pieces s)
+  within =
+      subst (Within (t .maps) (t .start)) (append-assoc (pieces (gone s)) (pieces (roll s)) (s .waiting))
+      (all-append (λ p. t .maps .within p (t .start) ≡ true) (pieces (gone s) ++ pieces (roll s)) (s .waiting)
+      (subst (Within (t .maps) (t .start)) (ap pieces (sym (take-append-drop (s .taken) (s .made))) ∙ map-append (λ r. r .piece) (gone s) (roll s)) (k .made-within)) (k .waiting-within))
+
   shared : Parts (t .maps) (t .start) (all-pieces s)
   shared n =
       omega (arith, times-append (t .maps) n (pieces (gone s)) (pieces (roll s) ++ s .waiting), times-append (t .maps) n (pieces (roll s)) (s .waiting), roll-times n, k .shares n)
@@ -85,8 +89,18 @@ module _ {P : Type 0} (t : Task P) (l : Laws (t .maps)) (set : ℕ → Bool) (s 
   added =
       omega (arith, total-parts (t .maps) l (t .start) (all-pieces s) shared, sumBy-append (t .maps .count) (pieces (gone s)) (pieces (roll s) ++ s .waiting), sumBy-append (t .maps .count) (pieces (roll s)) (s .waiting))
 
-  tallied : points-told (tally t s) ≡ t .maps .count (t .start)
-  tallied = omega (arith, added, by-class (t .maps .count) (gone s), by-class (t .maps .count) (roll s))
+  counted : Counts t s (tally t s)
+  counted =
+      record {
+        waiting-points = refl;
+        roll-points = elim [ inside ↦ refl | outside ↦ refl | undecided ↦ refl ];
+        taken-points = elim [ inside ↦ refl | outside ↦ refl | undecided ↦ refl ];
+        accepted-steps = refl;
+        next = refl;
+      }
+
+  tally-added : points-told (tally t s) ≡ t .maps .count (t .start)
+  tally-added = omega (arith, added, by-class (t .maps .count) (gone s), by-class (t .maps .count) (roll s))
 
   module _ (n : ℕ) where
     classes : times (t .maps) n (pieces (roll s)) ≡ times (t .maps) n (of-class inside (roll s)) + times (t .maps) n (of-class outside (roll s)) + times (t .maps) n (of-class undecided (roll s))
@@ -122,4 +136,4 @@ module _ {P : Type 0} (t : Task P) (l : Laws (t .maps)) (set : ℕ → Bool) (s 
         go false e = ((λ f. false≢true (sym e ∙ f)), refl)
 
   pub sum-law : Sum t s
-  sum-law = record { shared = shared; added = added; tallied = tallied; found = found; one-place = one-place }
+  sum-law = record { within = within; shared = shared; added = added; tallied = counted; tally-added = tally-added; found = found; one-place = one-place }

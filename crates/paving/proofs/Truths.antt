@@ -1,20 +1,20 @@
 -- The truth law, and the limits.
-use Prim.Native.Nat.{ℕ, zero, suc, _+_, _*_, _≤_, _<_}
+use Prim.Native.Nat.{ℕ, _≤_}
 use native.Mathlib.Omega.{arith}
 use mathlib.Core.Bool.{Bool, true, false, cond, _&&_}
-use mathlib.Core.List.{List, [], _∷_, _++_, map}
-use mathlib.Core.Logic.{_⊎_, inl, inr}
-use mathlib.Core.Path.{_≡_, refl, sym, ap, subst, _∙_}
+use mathlib.Core.List.{List, [], _∷_}
+use mathlib.Core.Logic.{inl, inr}
+use mathlib.Core.Path.{_≡_, refl, sym, ap, _∙_}
 use lib.ListN.{length}
 use Rattle.std.specs.shelf.Lists.{All}
 use Rattle.std.proofs.shelf.Tests.{cases-bool, cases-eq, false≢true, true≢false}
 use Rattle.scan.specs.Count.{bit}
 use Rattle.domain.specs.Laws.{Laws}
-use Rattle.domain.specs.Maps.{Maps, times, total}
+use Rattle.domain.specs.Maps.{Maps, times}
 use Rattle.contractor.specs.Meaning.{meaning, Sound}
 use Rattle.contractor.proofs.Sums.{times-by-all, length-total}
-use Rattle.paving.specs.Laws.{Truth, Limits}
-use Rattle.paving.specs.Sheet.{Task, State, pieces, of-class, put}
+use Rattle.paving.specs.Laws.{Small, Truth, Limits}
+use Rattle.paving.specs.Sheet.{Task, State, of-class, put}
 use Rattle.paving.specs.declared.classes.Class.{Class}
 use Rattle.paving.specs.declared.classes.Class.the-variants.{Inside, Outside, Undecided}
 use Rattle.paving.specs.declared.records.Record.{Record}
@@ -30,10 +30,10 @@ and-false : (a b : Bool) → b ≡ false → bit (a && b) ≡ 0
 and-false true b e = ap bit e
 and-false false b e = refl
 
--- a bound that none of them meets leaves none
-none-large : {P : Type 0} (g : ℕ) (ps : List P) → All (λ p. 1 < g) ps → g ≡ 1 → ps ≡ []
-none-large g [] a e = refl
-none-large g (p ∷ ps) a e = absurd (omega (arith, a .0))
+-- at grain 1 no piece is small
+none-small : {P : Type 0} (t : Task P) → Laws (t .maps) → (ps : List P) → All (Small t) ps → t .grain ≡ 1 → ps ≡ []
+none-small t l [] a e = refl
+none-small t l (p ∷ ps) a e = absurd (omega (arith, a .0 .1, l .larger p (a .0 .0)))
 
 steep-length : {P : Type 0} (d : Maps P) (ps : List P) → Steep d ps → length ps ≤ 25
 steep-length d [] h = omega arith
@@ -58,7 +58,7 @@ module _ {P : Type 0} (t : Task P) (set : ℕ → Bool) where
 
 module _ {P : Type 0} (t : Task P) (l : Laws (t .maps)) (set : ℕ → Bool) (sound : Sound (t .maps) (meaning set (t .keep) (t .shed))) (s : State P) (k : Kept t set s) where
   decided : t .grain ≡ 1 → of-class Undecided (s .made) ≡ []
-  decided = none-large (t .grain) (of-class Undecided (s .made)) (class-says t set Undecided (s .made) (k .true-of))
+  decided = none-small t l (of-class Undecided (s .made)) (class-says t set Undecided (s .made) (k .true-of))
 
   exact : t .grain ≡ 1 → s .waiting ≡ [] → (n : ℕ) → times (t .maps) n (of-class Inside (s .made)) ≡ bit (t .maps .holds (t .start) n && set n)
   exact g w n =
@@ -89,6 +89,7 @@ module _ {P : Type 0} (t : Task P) (l : Laws (t .maps)) (set : ℕ → Bool) (so
       record {
         inside-all = class-says t set Inside (s .made) (k .true-of);
         outside-none = class-says t set Outside (s .made) (k .true-of);
+        undecided-small = class-says t set Undecided (s .made) (k .true-of);
         decided = decided;
         exact = exact;
       }

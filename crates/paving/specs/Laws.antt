@@ -1,5 +1,5 @@
 -- The laws of a sheet: what holds after every list of turns from an opening.
-use Prim.Native.Nat.{ℕ, zero, suc, _+_, _*_, _≤_, _<_}
+use Prim.Native.Nat.{ℕ, suc, _+_, _*_, _≤_, _<_}
 use mathlib.Core.Bool.{Bool, true, false, _&&_}
 use mathlib.Core.List.{List, [], _∷_, _++_}
 use mathlib.Core.Path.{_≡_}
@@ -10,7 +10,7 @@ use Rattle.std.specs.Results
 use Rattle.std.specs.declared.result.Result.the-variants.{Ok, Err}
 use Rattle.std.specs.shelf.Lists.{All}
 use Rattle.scan.specs.Count.{bit}
-use Rattle.domain.specs.Maps.{Maps, Parts, times, total}
+use Rattle.domain.specs.Maps.{Maps, Inside as Within, Parts, times, total}
 use Rattle.domain.specs.declared.refusal.Refusal.{Refusal}
 use Rattle.domain.specs.Refusals.{Given, code}
 use Rattle.contractor.specs.Meaning.{Meaning}
@@ -41,6 +41,21 @@ points-in p = p .inside + p .outside + p .undecided
 abbrev pub points-told : Tally → ℕ
 points-told y = points-in (y .taken) + points-in (y .roll) + y .waiting
 
+-- the count of one class
+abbrev pub points-at : Points → Class → ℕ
+points-at p inside = p .inside
+points-at p outside = p .outside
+points-at p undecided = p .undecided
+
+-- What a tally tells of a state.
+pub record Counts {P : Type 0} (t : Task P) (s : State P) (y : Tally) : Type 0 where
+  pub waiting-points : y .waiting ≡ total (t .maps) (s .waiting)
+  pub roll-points : (c : Class) → points-at (y .roll) c ≡ total (t .maps) (of-class c (roll s))
+  pub taken-points : (c : Class) → points-at (y .taken) c ≡ total (t .maps) (of-class c (gone s))
+  pub accepted-steps : y .steps ≡ s .steps
+  -- the label of the next record is how many there were
+  pub next : y .«next_label» ≡ length (s .made)
+
 -- the pieces among which a point of that place lies
 abbrev pub lying : {P : Type 0} → State P → Place → List P
 lying s Waiting = s .waiting
@@ -59,12 +74,15 @@ times-lying d s n = times d n (lying s Waiting) + times d n (lying s Inside) + t
 
 -- The pieces taken, on the roll and waiting share out the start.
 pub record Sum {P : Type 0} (t : Task P) (s : State P) : Type 0 where
+  -- each is a sub-piece of the start
+  pub within : Within (t .maps) (t .start) (all-pieces s)
   -- each point of the start lies in exactly one of them, and no other point in any
   pub shared : Parts (t .maps) (t .start) (all-pieces s)
   -- their points add up to the start's
   pub added : total (t .maps) (pieces (gone s)) + total (t .maps) (pieces (roll s)) + total (t .maps) (s .waiting) ≡ t .maps .count (t .start)
-  -- and so do those that tally gives
-  pub tallied : points-told (tally t s) ≡ t .maps .count (t .start)
+  -- tally gives these counts, and they add up to the start's
+  pub tallied : Counts t s (tally t s)
+  pub tally-added : points-told (tally t s) ≡ t .maps .count (t .start)
   -- find gives the one place where a point of the start lies, and refuses any other number with 14
   pub found : (n : ℕ) → Given (find t n s) 14 (t .maps .holds (t .start) n ≡ true) (Lies (t .maps) s n)
   -- in just one of the five places, and in just one piece there
@@ -78,10 +96,15 @@ AllOf d set p = (n : ℕ) → d .holds p n ≡ true → set n ≡ true
 abbrev pub NoneOf : {P : Type 0} → Maps P → (ℕ → Bool) → P → Type 0
 NoneOf d set p = (n : ℕ) → d .holds p n ≡ true → set n ≡ false
 
+-- more than one point, and no larger than the grain
+abbrev pub Small : {P : Type 0} → Task P → P → Type 0
+Small t p = (1 < t .maps .count p) × (t .maps .size p ≤ t .grain)
+
 -- What records say is true of the set, whether they are on the roll or taken.
 pub record Truth {P : Type 0} (t : Task P) (set : ℕ → Bool) (s : State P) : Type 0 where
   pub inside-all : All (AllOf (t .maps) set) (of-class inside (s .made))
   pub outside-none : All (NoneOf (t .maps) set) (of-class outside (s .made))
+  pub undecided-small : All (Small t) (of-class undecided (s .made))
   pub decided : t .grain ≡ 1 → of-class undecided (s .made) ≡ []
   -- at grain 1 with nothing waiting, the inside pieces hold exactly the start's points of the set
   pub exact : t .grain ≡ 1 → s .waiting ≡ [] → (n : ℕ) → times (t .maps) n (of-class inside (s .made)) ≡ bit (t .maps .holds (t .start) n && set n)

@@ -1,6 +1,6 @@
 -- A paving worked by hand, on a line of points: the definitions give just that.
 use Prim.Native.Nat.{ℕ, zero, suc, _+_, _-_, _*_, _/_, _%_, min, max}
-use mathlib.Core.Bool.{Bool, true, false, not, _&&_}
+use mathlib.Core.Bool.{Bool, not, _&&_}
 use mathlib.Core.List.{List, [], _∷_, _++_}
 use mathlib.Core.Path.{_≡_}
 use lib.Dec.{leb, ltb}
@@ -10,7 +10,6 @@ use Rattle.std.specs.shelf.Lists.{countBy}
 use Rattle.scan.specs.Live.{run}
 use Rattle.scan.specs.declared.stretch.Stretch.{Stretch}
 use Rattle.domain.specs.Maps.{Maps}
-use Rattle.domain.specs.declared.refusal.Refusal.{Refusal}
 use Rattle.domain.specs.declared.refusal.Refusal.the-variants.{NothingWaiting, RollEmpty, NotAPoint}
 use Rattle.contractor.specs.Layers.{relaxed}
 use Rattle.contractor.specs.Meaning.{Meaning, meaning}
@@ -18,10 +17,8 @@ use Rattle.paving.specs.Sheet.{Task, task}
 use Rattle.paving.specs.Turns.{answers}
 use Rattle.paving.specs.declared.answers.Answer.{Answer}
 use Rattle.paving.specs.declared.answers.Answer.the-variants.{Stepped, Ran as RanFor, Taken as Took, Found, Tallied, Refused}
-use Rattle.paving.specs.declared.answers.Ran.{Ran}
 use Rattle.paving.specs.declared.classes.Class.the-variants.{Inside as inside, Outside as outside}
 use Rattle.paving.specs.declared.places.Place.the-variants.{Waiting, Inside, Taken}
-use Rattle.paving.specs.declared.records.Record.{Record}
 use Rattle.paving.specs.declared.tallies.Tally.{Tally}
 use Rattle.paving.specs.declared.turns.Turn.{Turn}
 use Rattle.paving.specs.declared.turns.Turn.the-variants.{Step, Run, Take, Find, Tally as TallyTurn}
