@@ -1,3 +1,4 @@
+pub mod Facts
 pub mod Fixing
 pub mod Joining
 pub mod Laws

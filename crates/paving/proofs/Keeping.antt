@@ -14,7 +14,7 @@ use Rattle.domain.specs.Laws.{Laws}
 use Rattle.domain.specs.Maps.{Maps, Inside as Within, times, total}
 use Rattle.contractor.specs.Meaning.{meaning, Sound}
 use Rattle.contractor.proofs.Sums.{times-append, times-cons, times-single}
-use Rattle.paving.specs.Sheet.{Task, State, opening, places, roll, free, pieces}
+use Rattle.paving.specs.Sheet.{Task, State, opening, roll-places, roll, free, pieces}
 use Rattle.paving.specs.Steps.{Entry, labelled, step-entries, step-back, stepped}
 use Rattle.paving.specs.Turns.{one-taken, after-turns}
 use Rattle.paving.specs.declared.records.Record.{Record}
@@ -37,7 +37,7 @@ pub record Kept {P : Type 0} (t : Task P) (set : ℕ → Bool) (s : State P) : T
   pub numbered : Numbered 0 (s .made)
   pub few-made : length (s .made) ≤ 9 * s .steps
   pub taken-made : s .taken ≤ length (s .made)
-  pub fits : length (roll s) ≤ places
+  pub fits : length (roll s) ≤ roll-places
 
 pub pieces-times : {P : Type 0} (d : Maps P) (n : ℕ) (rs qs : List (Record P)) → times d n (pieces (rs ++ qs)) ≡ times d n (pieces rs) + times d n (pieces qs)
 pieces-times d n rs qs = ap (times d n) (map-append (λ r. r .piece) rs qs) ∙ times-append d n (pieces rs) (pieces qs)

@@ -2,6 +2,7 @@ pub mod Causing
 pub mod Histories
 pub mod Keeping
 pub mod Playing
+pub mod Running
 pub mod SheetLaws
 pub mod Stepping
 pub mod Sums

@@ -2,20 +2,20 @@
 use Prim.Native.Nat.{ℕ, suc, _+_, _*_, _≤_, _<_}
 use mathlib.Core.Bool.{Bool, true, false, _&&_}
 use mathlib.Core.List.{List, [], _∷_, _++_}
+use mathlib.Core.Logic.{_⊎_}
 use mathlib.Core.Path.{_≡_}
 use lib.ListN.{length, getD}
-use mathlib.Core.Logic.{_⊎_}
 use Rattle.std.specs.Options.{Cases}
 use Rattle.std.specs.Results
 use Rattle.std.specs.declared.result.Result.the-variants.{Ok, Err}
 use Rattle.std.specs.shelf.Lists.{All}
 use Rattle.scan.specs.Count.{bit}
 use Rattle.domain.specs.Maps.{Maps, Inside as Within, Parts, times, total}
-use Rattle.domain.specs.declared.refusal.Refusal.{Refusal}
 use Rattle.domain.specs.Refusals.{Given, code}
+use Rattle.domain.specs.declared.refusal.Refusal.{Refusal}
 use Rattle.contractor.specs.Meaning.{Meaning}
 use Rattle.contractor.specs.Rearranged.{Rearranged}
-use Rattle.paving.specs.Sheet.{Task, task, State, Outcome, places, roll, gone, free, pieces, of-class}
+use Rattle.paving.specs.Sheet.{Task, task, State, Outcome, roll-places, roll, gone, free, pieces, of-class}
 use Rattle.paving.specs.Steps.{step-entries, step}
 use Rattle.paving.specs.Turns.{take-oldest, run, find, tally, turn, answers, after-turns}
 use Rattle.paving.specs.declared.answers.Answer.{Answer}
@@ -117,7 +117,7 @@ pub record Limits {P : Type 0} (t : Task P) (s : State P) : Type 0 where
   pub few-records : (x : P) → length (step-entries t x) ≤ 9
   -- there are no more records than these steps made
   pub few-made : length (s .made) ≤ 9 * s .steps
-  pub fits-roll : length (roll s) ≤ places
+  pub fits-roll : length (roll s) ≤ roll-places
   -- a record's label is its place among all that were made
   pub labels : (k : ℕ) (r : Record P) → k < length (s .made) → getD (s .made) k r .label ≡ k
 

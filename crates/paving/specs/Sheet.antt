@@ -34,9 +34,9 @@ pub record State (P : Type 0) : Type 0 where
 abbrev pub opening : {P : Type 0} → Task P → State P
 opening t = record { waiting = t .start ∷ []; made = []; taken = 0; steps = 0 }
 
--- the roll has so many places
-abbrev pub places : ℕ
-places = 1024
+-- the roll has so many
+abbrev pub roll-places : ℕ
+roll-places = 1024
 
 abbrev pub roll : {P : Type 0} → State P → List (Record P)
 roll s = drop (s .taken) (s .made)
@@ -46,7 +46,7 @@ abbrev pub gone : {P : Type 0} → State P → List (Record P)
 gone s = take (s .taken) (s .made)
 
 abbrev pub free : {P : Type 0} → State P → ℕ
-free s = places - length (roll s)
+free s = roll-places - length (roll s)
 
 abbrev pub pieces : {P : Type 0} → List (Record P) → List P
 pieces rs = map (λ r. r .piece) rs
