@@ -1,0 +1,4 @@
+pub mod Layers
+pub mod Meaning
+pub mod Rearranged
+pub mod Theorems

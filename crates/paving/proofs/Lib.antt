@@ -1,0 +1,10 @@
+pub mod Causing
+pub mod Histories
+pub mod Keeping
+pub mod Playing
+pub mod Running
+pub mod SheetLaws
+pub mod Stepping
+pub mod Sums
+pub mod Telling
+pub mod Truths

@@ -1,0 +1,6 @@
+pub mod Laws
+pub mod Numbers
+pub mod Sheet
+pub mod Steps
+pub mod Turns
+pub mod Worked
