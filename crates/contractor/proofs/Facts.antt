@@ -2,23 +2,28 @@
 use Prim.Native.Nat.{ℕ, _+_, _-_, _≤_, _<_}
 use native.Mathlib.Omega.{arith}
 use mathlib.Core.Bool.{Bool, true, cond}
-use mathlib.Core.List.{List, [], _∷_}
+use mathlib.Core.List.{List, [], _∷_, map}
 use mathlib.Core.Logic.{inl, inr}
 use mathlib.Core.Path.{_≡_, refl, ap}
 use lib.ListN.{length}
 use Rattle.std.specs.Orderings.{Decides}
 use Rattle.std.specs.shelf.Lists.{All, countBy}
+use Rattle.std.specs.shelf.Sorted.{Shuffled}
+use Rattle.std.proofs.shelf.Elements.{all-map}
+use Rattle.std.proofs.shelf.Lists.{length-map}
 use Rattle.std.proofs.shelf.Sorted.{all-shuffled}
 use Rattle.std.proofs.shelf.Sums.{sumBy-cons, countBy-le-length}
 use Rattle.std.proofs.shelf.Tests.{cases-bool, leb-true, le-leb}
 use Rattle.domain.specs.Laws.{Laws}
 use Rattle.domain.specs.Maps.{Maps}
-use Rattle.contractor.specs.Layers.{holders, relaxed}
+use Rattle.contractor.specs.Layers.{holders, relaxed, fixed}
 use Rattle.contractor.specs.Meaning.{Meaning, Sound}
-use Rattle.contractor.specs.Rearranged.Rearranged.{relaxed-of}
+use Rattle.contractor.specs.Rearranged.{Rearranged}
+use Rattle.contractor.specs.Rearranged.Rearranged.{fixed-of, relaxed-of}
 use Rattle.contractor.specs.Theorems.{Any, LayerFacts}
 use Rattle.contractor.proofs.Fixing.{fixed-keep, fixed-shed}
 use Rattle.contractor.proofs.Laws.{all-shuffled-paired}
+use Rattle.contractor.proofs.Reordering.{shuffled-paired}
 
 module _ {X : Type 0} (p : X → Bool) where
   counted : (x : X) (xs : List X) → countBy p (x ∷ xs) ≡ cond (p x) 1 0 + countBy p xs
@@ -75,3 +80,11 @@ module _ {P : Type 0} (d : Maps P) (l : Laws d) where
         keep-alike = λ a s x. fixed-keep d l a s x .alike;
         shed-alike = λ a s x. fixed-shed d l a s x .alike;
       }
+
+-- Fixed over Relaxed over the same readings in another order
+pub readings-order : {P R : Type 0} (d : Maps P) (means : R → Meaning P) (q : ℕ) (rs qs : List R) → q < length rs → All (λ r. Sound d (means r)) rs → Shuffled rs qs → Rearranged d (fixed d (relaxed d q (map means rs))) (fixed d (relaxed d q (map means qs)))
+readings-order d means q rs qs few all h =
+    fixed-of
+    (relaxed-of (let f : q < length (map means rs) = omega (arith, length-map rs means) in f) (all-map (Sound d) means rs all)
+    (all-map (Sound d) means qs (all-shuffled (λ r. Sound d (means r)) rs qs h all))
+    (shuffled-paired d means rs qs h))
