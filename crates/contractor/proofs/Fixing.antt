@@ -12,7 +12,8 @@ use Rattle.domain.specs.Laws.{Laws}
 use Rattle.domain.specs.Maps.{Maps, Fits, Holds}
 use Rattle.contractor.specs.Layers.{after, turned, Settles, settled, fixed}
 use Rattle.contractor.specs.Meaning.{Meaning, Sound}
-use Rattle.contractor.proofs.Pieces.{count-within, fits-up}
+use Rattle.domain.proofs.Totals.{count-within}
+use Rattle.contractor.proofs.Pieces.{fits-up}
 
 -- an answer is not nothing and a piece at once
 some-none : {P : Type 0} (o : Option P) (p : P) → o ≡ None → o ≡ Some p → ⊥

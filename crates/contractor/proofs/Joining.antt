@@ -10,7 +10,8 @@ use Rattle.domain.specs.Laws.{Laws}
 use Rattle.domain.specs.Maps.{Maps, Fits, Holds}
 use Rattle.contractor.specs.Layers.{after, both, either, opposite}
 use Rattle.contractor.specs.Meaning.{Meaning, meaning, Sound}
-use Rattle.contractor.proofs.Pieces.{alone, fits-up, span-fits, span-holds-left, span-holds-right}
+use Rattle.domain.proofs.Totals.{alone}
+use Rattle.contractor.proofs.Pieces.{fits-up, span-fits, span-holds-left, span-holds-right}
 
 either-not : (a b : Bool) → not (not a && not b) ≡ (a || b)
 either-not true b = refl
@@ -45,7 +46,7 @@ module _ {P : Type 0} (d : Maps P) (l : Laws d) where
 
   after-one : (f : P → Option P) (x : P) (o : Option P) → Fits d x o → d .count x ≡ 1 → f x ≡ None → after f o ≡ None
   after-one f x None h c e = refl
-  after-one f x (Some y) h c e = ap f (alone d l y x c h) ∙ e
+  after-one f x (Some y) h c e = ap f (alone d l y x h c) ∙ e
 
   module _ (a b : Meaning P) (s : Sound d a) (t : Sound d b) where
     both-shed : (x : P) (n : ℕ) → d .holds x n ≡ true → (a .set n && b .set n) ≡ false → Holds d (d .span x (a .shed x) (b .shed x)) n

@@ -6,4 +6,3 @@ pub mod Pieces
 pub mod Rearranging
 pub mod Relaxing
 pub mod Reordering
-pub mod Sums

@@ -1,30 +1,14 @@
--- What follows from a domain's laws for every domain: counts of sub-pieces, and answers that fit.
-use Prim.Native.Nat.{ℕ, _≤_}
-use native.Mathlib.Omega.{arith}
-use mathlib.Core.Bool.{Bool, true, false}
-use mathlib.Core.Path.{_≡_, refl, sym, ap, subst}
+-- What follows from a domain's laws of answers that fit.
+use Prim.Native.Nat.{ℕ}
+use mathlib.Core.Bool.{true}
+use mathlib.Core.Path.{_≡_, sym, subst}
 use Rattle.std.specs.declared.option.Option.{Option}
 use Rattle.std.specs.declared.option.Option.the-variants.{Some, None}
 use Rattle.std.specs.Options.{Cases}
-use Rattle.scan.specs.Count.{bit}
-use Rattle.scan.proofs.Counting.{sum-mono}
 use Rattle.domain.specs.Laws.{Laws}
-use Rattle.domain.specs.Maps.{Maps, points, Fits, Holds}
-
-bit-mono : (a b : Bool) → (a ≡ true → b ≡ true) → bit a ≤ bit b
-bit-mono true b h = omega (arith, ap bit (h refl))
-bit-mono false b h = omega arith
+use Rattle.domain.specs.Maps.{Maps, Fits, Holds}
 
 module _ {P : Type 0} (d : Maps P) (l : Laws d) where
-  -- a sub-piece has no more points
-  pub count-within : (q p : P) → d .within q p ≡ true → d .count q ≤ d .count p
-  count-within q p w =
-      omega (arith, l .counted q, l .counted p, sum-mono (λ i. bit (d .holds q i)) (λ i. bit (d .holds p i)) points (λ i _. bit-mono (d .holds q i) (d .holds p i) (l .held q p w i)))
-
-  -- the only sub-piece of one point is itself
-  pub alone : (q x : P) → d .count x ≡ 1 → d .within q x ≡ true → q ≡ x
-  alone q x e w = l .whole q x w (omega (arith, count-within q x w, l .some q))
-
   -- what fits a sub-piece fits the piece
   pub fits-up : (x y : P) (o : Option P) → d .within y x ≡ true → Fits d y o → Fits d x o
   fits-up x y None w f = tt

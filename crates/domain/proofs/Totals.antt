@@ -2,10 +2,12 @@
 use Prim.Native.Nat.{ℕ, zero, suc, _+_, _*_, _^_, _≤_, _<_}
 use native.Mathlib.Omega.{arith}
 use mathlib.Core.Bool.{Bool, true, false, cond}
-use mathlib.Core.List.{List, [], _∷_}
+use mathlib.Core.List.{List, [], _∷_, _++_}
 use mathlib.Core.Logic.{_⊎_, inl, inr}
 use mathlib.Core.Path.{_≡_, refl, sym, ap, _∙_}
-use Rattle.std.proofs.shelf.Sums.{sumBy-cons}
+use lib.ListN.{length}
+use Rattle.std.specs.shelf.Lists.{All}
+use Rattle.std.proofs.shelf.Sums.{sumBy-cons, sumBy-append}
 use Rattle.std.proofs.shelf.Tests.{cases-lt, cases-bool}
 use Rattle.std.proofs.shelf.Bits.{pow-pos}
 use Rattle.scan.specs.Count.{bit, sum-below, count-below}
@@ -29,6 +31,28 @@ module _ {P : Type 0} (d : Maps P) where
 
   pub total-cons : (p : P) (ps : List P) → total d (p ∷ ps) ≡ d .count p + total d ps
   total-cons p ps = sumBy-cons (d .count) p ps
+
+  pub times-append : (n : ℕ) (ps qs : List P) → times d n (ps ++ qs) ≡ times d n ps + times d n qs
+  times-append n = sumBy-append (λ q. cond (d .holds q n) 1 0)
+
+  pub times-single : (n : ℕ) (p : P) → times d n (p ∷ []) ≡ bit (d .holds p n)
+  times-single n p = omega (arith, times-cons n p [])
+
+  -- what holds of every point that some listed piece holds
+  pub all-by-times : (Q : ℕ → Type 0) (ps : List P) → ((n : ℕ) → 0 < times d n ps → Q n) → All (λ p. (n : ℕ) → d .holds p n ≡ true → Q n) ps
+  all-by-times Q [] f = tt
+  all-by-times Q (p ∷ ps) f = (
+    (λ n h. f n (omega (arith, times-cons n p ps, bit-true (d .holds p n) h))),
+    all-by-times Q ps (λ n h. f n (omega (arith, times-cons n p ps))),
+  )
+
+  pub times-by-all : (Q : ℕ → Type 0) (ps : List P) → All (λ p. (n : ℕ) → d .holds p n ≡ true → Q n) ps → (n : ℕ) → 0 < times d n ps → Q n
+  times-by-all Q [] a n h = absurd (omega arith)
+  times-by-all Q (p ∷ ps) a n h =
+      elim (cases-bool (d .holds p n)) [
+        | inl e ↦ a .0 n e
+        | inr e ↦ times-by-all Q ps (a .1) n (omega (arith, times-cons n p ps, bit-false (d .holds p n) e))
+      ]
 
   -- a point that a listed sub-piece of x holds is held by x
   pub times-held : (x : P) (n : ℕ) → ((q : P) → d .within q x ≡ true → d .holds q n ≡ true → d .holds x n ≡ true) → (ps : List P) → Inside d x ps → 0 < times d n ps → d .holds x n ≡ true
@@ -82,6 +106,14 @@ module _ {P : Type 0} (d : Maps P) (l : Laws d) where
             omega (arith, low, high, halves-total p h, pow-succ' 2 k)
         | inr h ↦ omega (arith, pow-pos (suc k))
       ]
+
+  pub count-most : (p : P) → d .count p ≤ 2 ^ 24
+  count-most p = count-height 24 p (l .height-most p)
+
+  -- each piece has a point
+  pub length-total : (ps : List P) → length ps ≤ total d ps
+  length-total [] = omega arith
+  length-total (p ∷ ps) = omega (arith, total-cons d p ps, l .some p, length-total ps)
 
   pub consequences : Consequences d
   consequences = record {

@@ -13,7 +13,7 @@ use Rattle.scan.specs.Count.{bit}
 use Rattle.domain.specs.Laws.{Laws}
 use Rattle.domain.specs.Maps.{Maps, Inside as Within, times, total}
 use Rattle.contractor.specs.Meaning.{meaning, Sound}
-use Rattle.contractor.proofs.Sums.{times-append, times-cons, times-single}
+use Rattle.domain.proofs.Totals.{times-append, times-cons, times-single}
 use Rattle.paving.specs.Sheet.{Task, State, opening, roll-places, roll, free, pieces}
 use Rattle.paving.specs.Steps.{Entry, labelled, step-entries, step-back, stepped}
 use Rattle.paving.specs.Turns.{one-taken, after-turns}

@@ -19,8 +19,7 @@ use Rattle.scan.proofs.Counting.{bit-le, bit-true, count-some}
 use Rattle.domain.specs.Laws.{Laws}
 use Rattle.domain.specs.Maps.{Maps, Inside as Within, points, times, total, Fits, Holds}
 use Rattle.contractor.specs.Meaning.{meaning, Sound}
-use Rattle.contractor.proofs.Pieces.{count-within, alone}
-use Rattle.contractor.proofs.Sums.{times-cons, times-append, times-single, all-by-times, total-parts}
+use Rattle.domain.proofs.Totals.{count-within, alone, times-cons, times-append, times-single, all-by-times, total-parts}
 use Rattle.paving.specs.Laws.{AllOf, NoneOf, Small}
 use Rattle.paving.specs.Sheet.{Task}
 use Rattle.paving.specs.Steps.{Entry, entries, without, left-undecided, put-back, entries-at, back-at, step-entries, step-back}
@@ -197,7 +196,7 @@ module _ {P : Type 0} (t : Task P) (l : Laws (t .maps)) (set : ℕ → Bool) (s 
       elim (cases-bool (set (n .0))) [
         | inl y ↦
             let none = s .shed-one x (n .0) c (n .1) y in
-            let same = ap (t .shed) (alone (t .maps) l p x c w) in
+            let same = ap (t .shed) (alone (t .maps) l p x w c) in
             let z : _≡_ {A = ℕ} 0 1 = cc in omega arith
         | inr y ↦
             let none = s .keep-one x (n .0) c (n .1) y in

@@ -16,7 +16,7 @@ use Rattle.domain.specs.Laws.{Laws}
 use Rattle.domain.specs.Maps.{Maps, Inside as Within, times, total, Parts}
 use Rattle.domain.specs.Refusals.{Given}
 use Rattle.domain.specs.declared.refusal.Refusal.the-variants.{NotAPoint}
-use Rattle.contractor.proofs.Sums.{times-cons, times-append, total-parts}
+use Rattle.domain.proofs.Totals.{times-cons, times-append, total-parts}
 use Rattle.paving.specs.Laws.{all-pieces, points-told, Counts, Lies, times-lying, Sum}
 use Rattle.paving.specs.Sheet.{Task, State, roll, gone, pieces, of-class, put}
 use Rattle.paving.specs.Turns.{held, place-of, place-on, find, tally}

@@ -12,7 +12,7 @@ use Rattle.scan.specs.Count.{bit}
 use Rattle.domain.specs.Laws.{Laws}
 use Rattle.domain.specs.Maps.{Maps, times}
 use Rattle.contractor.specs.Meaning.{meaning, Sound}
-use Rattle.contractor.proofs.Sums.{times-by-all, length-total}
+use Rattle.domain.proofs.Totals.{times-by-all, length-total}
 use Rattle.paving.specs.Laws.{Small, Truth, Limits}
 use Rattle.paving.specs.Sheet.{Task, State, of-class, put}
 use Rattle.paving.specs.declared.classes.Class.{Class}
