@@ -1,0 +1,7 @@
+// Tests at the edges, and a tiny domain that shows how little the laws ask.
+#[cfg(test)]
+mod dial_tests;
+pub mod rail;
+#[cfg(test)]
+mod rail_tests;
+pub mod rails;
