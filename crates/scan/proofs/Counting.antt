@@ -1,9 +1,10 @@
 -- Sums and counts below a bound.
-use Prim.Native.Nat.{ℕ, zero, suc, _+_, _-_, min, _≤_, _<_}
+use Prim.Native.Nat.{ℕ, zero, suc, _+_, _-_, _*_, min, _≤_, _<_}
+use native.Mathlib.Nat.{add-zero, add-suc, suc-mul, mul-add, add-mul, zero-mul}
 use native.Mathlib.Omega.{arith}
 use mathlib.Core.Bool.{Bool, true, false, _&&_}
 use mathlib.Core.Logic.{_⊎_, inl, inr}
-use mathlib.Core.Path.{_≡_, refl, ap, subst}
+use mathlib.Core.Path.{_≡_, refl, sym, ap, subst, _∙_}
 use lib.Dec.{leb, ltb}
 use Rattle.std.proofs.shelf.Tests.{cases-eq, cases-bool}
 use Rattle.std.proofs.shelf.Ways.{tells}
@@ -81,3 +82,33 @@ pub count-from-to : (a b n : ℕ) → count-below (from-to a b) n ≡ min b n - 
 unfolding sum-below
 count-from-to a b zero = omega arith
 count-from-to a b (suc n) = from-to-bit a b n (count-below (from-to a b) n) (count-from-to a b n)
+
+-- a sum in two stretches, and one of multiples
+pub sum-split : (f : ℕ → ℕ) (m n : ℕ) → sum-below f (m + n) ≡ sum-below f m + sum-below (λ i. f (m + i)) n
+unfolding sum-below
+sum-split f m zero = ap (sum-below f) (add-zero m) ∙ omega arith
+sum-split f m (suc n) =
+    ap (sum-below f) (add-suc m n) ∙ omega (arith, sum-split f m n)
+
+pub sum-scale : (c : ℕ) (f : ℕ → ℕ) (n : ℕ) → sum-below (λ i. c * f i) n ≡ c * sum-below f n
+unfolding sum-below
+sum-scale c f zero = omega arith
+sum-scale c f (suc n) = omega (arith, sum-scale c f n, mul-add c (sum-below f n) (f n))
+
+bit-and : (a b : Bool) → bit (a && b) ≡ bit a * bit b
+bit-and true b = omega arith
+bit-and false b = omega arith
+
+-- row by row: w numbers to a row, h rows, and a test that asks one thing of the row and one of the place in it
+module _ (p f g : ℕ → Bool) (w : ℕ) (splits : (y x : ℕ) → x < w → p (y * w + x) ≡ (f y && g x)) where
+  count-row : (y : ℕ) → sum-below (λ x. bit (p (y * w + x))) w ≡ bit (f y) * count-below g w
+  count-row y =
+      sum-ext (λ x. bit (p (y * w + x))) (λ x. bit (f y) * bit (g x)) w (λ x h. ap bit (splits y x h) ∙ bit-and (f y) (g x))
+      ∙ sum-scale (bit (f y)) (λ x. bit (g x)) w
+
+  pub count-grid : (h : ℕ) → count-below p (h * w) ≡ count-below f h * count-below g w
+  unfolding sum-below
+  count-grid zero = ap (count-below p) (zero-mul w) ∙ omega (arith, zero-mul (count-below g w))
+  count-grid (suc h) =
+      ap (count-below p) (suc-mul h w) ∙ sum-split (λ i. bit (p i)) (h * w) w
+      ∙ omega (arith, count-grid h, count-row h, add-mul (count-below f h) (bit (f h)) (count-below g w))

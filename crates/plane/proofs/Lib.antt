@@ -1,0 +1,10 @@
+pub mod Cells
+pub mod Gathers
+pub mod Halves
+pub mod Lawful
+pub mod Made
+pub mod Members
+pub mod Numbered
+pub mod Promised
+pub mod Strips
+pub mod Within
