@@ -3,4 +3,3 @@ pub mod Numbers
 pub mod Sheet
 pub mod Steps
 pub mod Turns
-pub mod Worked

@@ -6,4 +6,3 @@ pub mod places;
 pub mod records;
 pub mod tallies;
 pub mod turns;
-pub mod worked;

@@ -5,6 +5,7 @@ pub mod cuts;
 pub mod domain;
 pub mod gathers;
 pub mod made;
+pub mod shown;
 pub mod sides;
 pub mod spans;
 
