@@ -3,7 +3,6 @@ pub mod Gathers
 pub mod Halves
 pub mod Lawful
 pub mod Made
-pub mod Members
 pub mod Numbered
 pub mod Promised
 pub mod Strips

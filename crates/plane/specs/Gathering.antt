@@ -1,6 +1,5 @@
 -- Gathering boxes by their numbers.
 use Prim.Native.Nat.{ℕ, _/_, _%_, _^_, _≤_, _<_}
-use mathlib.Core.Bool.{true}
 use mathlib.Core.List.{List, map}
 use mathlib.Core.Path.{_≡_}
 use Rattle.std.specs.declared.option.Option.{Option}
@@ -10,7 +9,7 @@ use Rattle.scan.specs.Live.{run, Runs}
 use Rattle.scan.specs.declared.stretch.Stretch.{Stretch}
 use Rattle.domain.specs.Maps.{pieces}
 use Rattle.plane.specs.declared.plane_box.PlaneBox.{PlaneBox}
-use Rattle.plane.specs.Boxes.{box-numbered, columns, rows, within, crossed, plane}
+use Rattle.plane.specs.Boxes.{columns, rows, crossed, plane}
 
 -- g is what is left of the boxes ps at depth k: the box from the first to the last column that at least k of
 -- their column ranges hold, and from the first to the last such row; nothing where there is no such column or row
@@ -22,10 +21,6 @@ Crossing ps k g =
 -- the same, of the boxes of a list of numbers
 abbrev pub CrossingOf : List ℕ → ℕ → Option PlaneBox → Type 0
 CrossingOf ns k g = Cases (pieces plane ns) ⊥ (λ ps. Crossing ps k g)
-
--- n is the number of a sub-piece of x
-abbrev pub Member : PlaneBox → ℕ → Type 0
-Member x n = Cases (box-numbered n) ⊥ (λ p. within p x ≡ true)
 
 -- the columns and the rows of the box of a number, read off the number
 abbrev pub columns-numbered : ℕ → Stretch

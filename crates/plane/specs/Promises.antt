@@ -8,9 +8,9 @@ use Rattle.std.specs.declared.option.Option.{Option}
 use Rattle.std.specs.declared.option.Option.the-variants.{Some, None}
 use Rattle.std.specs.Options.{isSome}
 use Rattle.std.specs.Orderings.{Decides}
-use Rattle.domain.specs.Maps.{Fits, Holds, joined}
+use Rattle.domain.specs.Maps.{Holds, joined}
 use Rattle.plane.specs.declared.plane_box.PlaneBox.{PlaneBox}
-use Rattle.plane.specs.Boxes.{box-of, point, holds, within, gather, plane}
+use Rattle.plane.specs.Boxes.{box-of, point, holds, gather, plane}
 
 -- column x and row y are within a box's ranges
 abbrev pub InRanges : PlaneBox → ℕ → ℕ → Type 0
@@ -26,12 +26,6 @@ pub record Exact (b : PlaneBox) : Type 0 where
 -- a point that one of two holds, either of which may be nothing
 abbrev pub HeldByEither : Option PlaneBox → Option PlaneBox → ℕ → Type 0
 HeldByEither one other n = Holds plane one n ⊎ Holds plane other n
-
--- s is the smallest in x that holds what either of two holds: it lies in every sub-piece of x that does
-pub record Smallest (x : PlaneBox) (one other s : Option PlaneBox) : Type 0 where
-  pub fits : Fits plane x s
-  pub holds-both : (n : ℕ) → HeldByEither one other n → Holds plane s n
-  pub least : (t : PlaneBox) → within t x ≡ true → ((n : ℕ) → HeldByEither one other n → holds t n ≡ true) → Fits plane t s
 
 -- the gathering of boxes, if all of them are boxes
 abbrev pub gathering : Option PlaneBox → Option (List PlaneBox) → ℕ → Option PlaneBox

@@ -1,11 +1,11 @@
 // The plane as a domain.
 ghost use Prim.Native.Nat.{_<_};
 ghost use mathlib.Core.Path.{_≡_};
-ghost use Rattle.domain.specs.Maps.{Fits, Members, Gathered};
+ghost use Rattle.domain.specs.Maps.{Fits, Members, Gathered, Smallest};
 ghost use Rattle.domain.specs.Refusals.{Given};
 ghost use Rattle.std.specs.Results.{Cases};
 ghost use Rattle.plane.specs.Boxes.{plane, holds as holds-of, span as span-of};
-ghost use Rattle.plane.specs.Promises.{Exact, Smallest};
+ghost use Rattle.plane.specs.Promises.{Exact, HeldByEither};
 ghost use Rattle.plane.specs.Gathering.{CrossingOf};
 use crate::plane_box::PlaneBox;
 use crate::plane_box::gathers::deep_columns;
@@ -85,7 +85,7 @@ pub impl Domain for PlaneBox as PlaneBoxDomain {
         other: Option<PlaneBox>,
     ) -> Result<Option<PlaneBox>, Refusal>
         ensures value { λ r. ⌜ Given r 1 (Fits plane (now (self .entry)) one × Fits plane (now (self .entry)) other) (λ s. s ≡ span-of (now (self .entry)) one other) ⌝ }
-        ensures smallest { λ r. ⌜ Given r 1 (Fits plane (now (self .entry)) one × Fits plane (now (self .entry)) other) (λ s. Smallest (now (self .entry)) one other s) ⌝ }
+        ensures smallest { λ r. ⌜ Given r 1 (Fits plane (now (self .entry)) one × Fits plane (now (self .entry)) other) (λ s. Smallest plane (now (self .entry)) (HeldByEither one other) s) ⌝ }
     {
         if !self.holds_both(one, other) {
             return Err(Refusal::NotAPiece);

@@ -2,9 +2,9 @@
 ghost use Prim.Native.Nat.{ℕ, _<_};
 ghost use mathlib.Core.Path.{_≡_};
 ghost use Rattle.std.specs.Orderings.{Decides};
-ghost use Rattle.domain.specs.Maps.{Members};
+ghost use Rattle.domain.specs.Maps.{Member, Members};
 ghost use Rattle.plane.specs.Boxes.{plane};
-ghost use Rattle.plane.specs.Gathering.{columns-numbered, rows-numbered, Member, Found};
+ghost use Rattle.plane.specs.Gathering.{columns-numbered, rows-numbered, Found};
 use crate::plane_box::PlaneBox;
 use crate::plane_box::domain::PlaneBoxDomain;
 use crate::plane_box::sides::Columns;
@@ -37,7 +37,7 @@ impl PlaneBox {
 
     // Whether a number is that of a sub-piece.
     fn has_member(&self, member: u64) -> bool
-        ensures { λ r. ⌜ Decides r (Member (now (self .entry)) member) ⌝ }
+        ensures { λ r. ⌜ Decides r (Member plane (now (self .entry)) member) ⌝ }
     {
         match PlaneBox::from_number(member) {
             Ok(piece) => piece.is_within(self),

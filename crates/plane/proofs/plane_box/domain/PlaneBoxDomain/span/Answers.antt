@@ -1,5 +1,7 @@
 use mathlib.Core.Path.{sym, subst}
-use Rattle.plane.specs.Promises.{Smallest}
+use Rattle.domain.specs.Maps.{Smallest}
+use Rattle.plane.specs.Boxes.{plane}
+use Rattle.plane.specs.Promises.{HeldByEither}
 use Rattle.plane.proofs.Promised.{smallest}
 use Rattle.plane.proofs.plane_box.domain.PlaneBoxDomain.span.Needs as need
 
@@ -10,5 +12,5 @@ returns c =
     let e = c .enclosing .ensures x in
     record {
       value = (f, e);
-      smallest = (f, subst (Smallest x (c .args .one) (c .args .other)) (sym e) (smallest x (c .args .one) (c .args .other) (f .0) (f .1)));
+      smallest = (f, subst (Smallest plane x (HeldByEither (c .args .one) (c .args .other))) (sym e) (smallest x (c .args .one) (c .args .other) (f .0) (f .1)));
     }
