@@ -7,32 +7,28 @@ use mathlib.Core.Path.{_≡_, refl, sym, ap, ap₂, _∙_}
 use Rattle.std.specs.declared.option.Option.{Option}
 use Rattle.std.specs.declared.option.Option.the-variants.{Some, None}
 use Rattle.dial.specs.declared.arc.Arc.{Arc}
-use Rattle.dial.specs.Arcs.{decided, arc-of}
-
--- what an arc is made of
-abbrev pub Valid : ℕ → ℕ → Type 0
-Valid s n = (s < 3600) × (0 < n) × (n ≤ 3600)
+use Rattle.dial.specs.Arcs.{AreArc, decided, arc-of}
 
 abbrev Made : ℕ → ℕ → Option Arc → Type 0
 Made s n o = (a : Arc) × (o ≡ Some a) × (a .start ≡ s) × (a .len ≡ n)
 
-decided-some : (s n : ℕ) (p : Dec (s < 3600)) (q : Dec (0 < n)) (r : Dec (n ≤ 3600)) → Valid s n → Made s n (decided s n p q r)
+decided-some : (s n : ℕ) (p : Dec (s < 3600)) (q : Dec (0 < n)) (r : Dec (n ≤ 3600)) → AreArc s n → Made s n (decided s n p q r)
 decided-some s n (yes p) (yes q) (yes r) v = (record { start = s; len = n; placed = p; some = q; most = r }, refl, refl, refl)
 decided-some s n (yes p) (yes q) (no r) v = absurd (r (v .2))
 decided-some s n (yes p) (no q) r v = absurd (q (v .1))
 decided-some s n (no p) q r v = absurd (p (v .0))
 
-pub arc-some : (s n : ℕ) → Valid s n → (a : Arc) × (arc-of s n ≡ Some a) × (a .start ≡ s) × (a .len ≡ n)
+pub arc-some : (s n : ℕ) → AreArc s n → (a : Arc) × (arc-of s n ≡ Some a) × (a .start ≡ s) × (a .len ≡ n)
 unfolding arc-of
 arc-some s n v = decided-some s n (decLt s 3600) (decLt 0 n) (decLe n 3600) v
 
-decided-none : (s n : ℕ) (p : Dec (s < 3600)) (q : Dec (0 < n)) (r : Dec (n ≤ 3600)) → (Valid s n → ⊥) → decided s n p q r ≡ None
+decided-none : (s n : ℕ) (p : Dec (s < 3600)) (q : Dec (0 < n)) (r : Dec (n ≤ 3600)) → (AreArc s n → ⊥) → decided s n p q r ≡ None
 decided-none s n (yes p) (yes q) (yes r) v = absurd (v (p, q, r))
 decided-none s n (yes p) (yes q) (no r) v = refl
 decided-none s n (yes p) (no q) r v = refl
 decided-none s n (no p) q r v = refl
 
-pub arc-none : (s n : ℕ) → (Valid s n → ⊥) → arc-of s n ≡ None
+pub arc-none : (s n : ℕ) → (AreArc s n → ⊥) → arc-of s n ≡ None
 unfolding arc-of
 arc-none s n v = decided-none s n (decLt s 3600) (decLt 0 n) (decLe n 3600) v
 

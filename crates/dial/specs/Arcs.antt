@@ -15,7 +15,11 @@ use Rattle.scan.specs.declared.stretch.Stretch.{Stretch}
 use Rattle.domain.specs.Maps.{Maps}
 use Rattle.dial.specs.declared.arc.Arc.{Arc}
 
--- the arc of n points from s on, where s is a point and n from 1 to 3600
+-- s is a point, and n from 1 to 3600
+abbrev pub AreArc : ℕ → ℕ → Type 0
+AreArc s n = (s < 3600) × (0 < n) × (n ≤ 3600)
+
+-- the arc of n points from s on
 abbrev pub decided : (s n : ℕ) → Dec (s < 3600) → Dec (0 < n) → Dec (n ≤ 3600) → Option Arc
 decided s n (yes p) (yes q) (yes r) = Some (record { start = s; len = n; placed = p; some = q; most = r })
 decided s n (yes p) (yes q) (no r) = None
