@@ -1,4 +1,4 @@
--- What a box holds, the smallest of all that hold two others, and the worked values.
+-- The smallest of all boxes that hold two others, and the worked values.
 use Prim.Native.Nat.{ℕ, _+_, _*_, _/_, _%_, min, max, _<_}
 use native.Mathlib.Omega.{arith}
 use mathlib.Core.Bool.{true}
@@ -6,13 +6,11 @@ use mathlib.Core.Logic.{inl, inr}
 use mathlib.Core.Path.{_≡_, refl, sym, subst}
 use Rattle.std.specs.declared.option.Option.{Option}
 use Rattle.std.specs.declared.option.Option.the-variants.{Some, None}
-use Rattle.std.proofs.shelf.Tests.{and-right, lt-leb}
-use Rattle.scan.specs.Depth.{covers}
 use Rattle.scan.specs.Live.{first-live, last-live, run}
 use Rattle.domain.specs.Maps.{Fits, Smallest}
 use Rattle.plane.specs.declared.plane_box.PlaneBox.{PlaneBox}
 use Rattle.plane.specs.Boxes.{box-of, HasNumbers, columns, rows, holds, within, span, plane}
-use Rattle.plane.specs.Promises.{InRanges, Exact, HeldByEither, Worked}
+use Rattle.plane.specs.Promises.{InRanges, HeldByEither, Worked}
 use Rattle.plane.proofs.Lawful.{lawful, hull-made}
 use Rattle.plane.proofs.Within.{within-is, within-from, covers-is, covers-from, holds-is, holds-from}
 
@@ -26,13 +24,6 @@ ranges b x y h e =
 in-ranges : (b : PlaneBox) (x y : ℕ) → x < 4096 → InRanges b x y → holds b (4096 * y + x) ≡ true
 in-ranges b x y h r =
     holds-from b (4096 * y + x) (covers-from (columns b) ((4096 * y + x) % 4096) (omega (arith, r)) (omega (arith, r))) (covers-from (rows b) ((4096 * y + x) / 4096) (omega (arith, r)) (omega (arith, r)))
-
-pub exact : (b : PlaneBox) → Exact b
-exact b = record {
-  points = λ x y h _. (ranges b x y h, in-ranges b x y h);
-  no-others = λ n h. and-right (covers (columns b) (n % 4096)) (covers (rows b) (n / 4096)) (and-right _ _ (lt-leb (n / 4096) (b .y1) (omega (arith, b .topmost))));
-  leads-back = λ x y h k. (omega arith, omega arith, omega arith);
-}
 
 -- what holds two corners of a box holds the box
 corners : (p t : PlaneBox) → ((n : ℕ) → holds p n ≡ true → holds t n ≡ true) → within p t ≡ true

@@ -1,0 +1,2 @@
+// Whole numbers as the readings file writes them.
+pub mod read;
