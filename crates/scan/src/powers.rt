@@ -2,7 +2,7 @@
 ghost use mathlib.Core.Path.{_≡_};
 ghost use Rattle.scan.specs.Powers.{log-up};
 
-// The least e with 2^e at least `side`; at most 32.
+// The least e with 2^e at least `side`.
 pub fn log_up(side: u32) -> u32
     ensures { λ r. ⌜ r ≡ log-up side ⌝ }
 {
