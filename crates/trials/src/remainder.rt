@@ -9,7 +9,7 @@ use std::error::AnyError;
 use std::fmt::Display;
 
 // Prints what is left of `whole` without `searched`, halves the largest part, and adds up.
-pub fn report<P: Domain + Display>(
+pub(crate) fn report<P: Domain + Display>(
     rt: &impl Print,
     whole: &P,
     searched: &P,

@@ -8,7 +8,7 @@ use plane::plane_box::domain::PlaneBoxDomain;
 use plane::plane_box::shown::PlaneBoxDisplay;
 use std::error::AnyError;
 
-pub fn run(rt: &impl Print) -> Result<(), AnyError> {
+pub(crate) fn run(rt: &impl Print) -> Result<(), AnyError> {
     let square = PlaneBox::new(100, 200, 163, 263)?;
     let searched = PlaneBox::new(110, 220, 141, 251)?;
     report(rt, &square, &searched)?;

@@ -9,7 +9,7 @@ use domain::shown::RefusalError;
 use std::error::AnyError;
 
 // From west by north to east, of which the stretch on both sides of north has been searched.
-pub fn run(rt: &impl Print) -> Result<(), AnyError> {
+pub(crate) fn run(rt: &impl Print) -> Result<(), AnyError> {
     let circle = Arc::new(2700, 1800)?;
     let searched = Arc::new(3500, 300)?;
     report(rt, &circle, &searched)?;
