@@ -61,7 +61,7 @@ module _ (side : PlaneBox → Stretch) where
 
 -- a run of columns and a run of rows, in x
 module _ (x : PlaneBox) (f g : ℕ → Bool) where
-  crossed-fits : (c r : Option Stretch) → Runs f (x .x0) (suc (x .x1)) c → Runs g (x .y0) (suc (x .y1)) r → Fits plane x (crossed c r)
+  pub crossed-fits : (c r : Option Stretch) → Runs f (x .x0) (suc (x .x1)) c → Runs g (x .y0) (suc (x .y1)) r → Fits plane x (crossed c r)
   crossed-fits None r p q = tt
   crossed-fits (Some c) None p q = tt
   crossed-fits (Some c) (Some r) p q =
@@ -72,7 +72,7 @@ module _ (x : PlaneBox) (f g : ℕ → Bool) where
       subst (Fits plane x) (sym (m .1)) (within-from (m .0) x (omega (arith, p .0, h), omega (arith, p .2, h), omega (arith, q .0, h), omega (arith, q .2, h)))
 
   -- a point whose column and row are live is in the box
-  crossed-holds : (c r : Option Stretch) → Runs f (x .x0) (suc (x .x1)) c → Runs g (x .y0) (suc (x .y1)) r → (n : ℕ) → holds x n ≡ true → f (n % 4096) ≡ true → g (n / 4096) ≡ true → Holds plane (crossed c r) n
+  pub crossed-holds : (c r : Option Stretch) → Runs f (x .x0) (suc (x .x1)) c → Runs g (x .y0) (suc (x .y1)) r → (n : ℕ) → holds x n ≡ true → f (n % 4096) ≡ true → g (n / 4096) ≡ true → Holds plane (crossed c r) n
   crossed-holds c r p q n h u v =
       let a = holds-is x n h in
       let i = covers-is (columns x) (n % 4096) (a .0) in

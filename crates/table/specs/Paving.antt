@@ -1,17 +1,15 @@
 -- The dial paved by three arcs, of which one may be wrong, turn by turn.
-use Prim.Native.Nat.{ℕ, _+_, _≤_, _<_}
-use mathlib.Core.Bool.{Bool, not}
+use Prim.Native.Nat.{ℕ}
 use mathlib.Core.List.{List, [], _∷_, map}
 use mathlib.Core.Path.{_≡_}
 use lib.Dec.{T, leb, ltb, lit<, lit≤}
-use Rattle.std.specs.declared.option.Option.{Option}
-use Rattle.std.specs.declared.option.Option.the-variants.{Some, None}
-use Rattle.scan.specs.Live.{run}
+use Rattle.std.specs.declared.option.Option.the-variants.{Some}
 use Rattle.domain.specs.declared.refusal.Refusal.the-variants.{NothingWaiting, RollEmpty, NotAPoint}
-use Rattle.contractor.specs.Layers.{relaxed, fixed}
+use Rattle.contractor.specs.Layers.{relaxed}
 use Rattle.contractor.specs.Meaning.{Meaning, meaning}
 use Rattle.dial.specs.declared.arc.Arc.{Arc}
-use Rattle.dial.specs.Arcs.{point, holds, along, dial}
+use Rattle.dial.specs.Arcs.{holds, dial}
+use Rattle.leaves.specs.Arcs.{kept, dropped}
 use Rattle.paving.specs.Sheet.{Task, task}
 use Rattle.paving.specs.Turns.{answers}
 use Rattle.paving.specs.declared.answers.Answer.{Answer}
@@ -26,11 +24,9 @@ use Rattle.paving.specs.declared.turns.Turn.the-variants.{Step, Run, Take, Find
 abbrev pub arc : (s n : ℕ) → T (ltb s 3600) → T (ltb 0 n) → T (leb n 3600) → Arc
 arc s n p q r = record { start = s; len = n; placed = lit< p; some = lit< q; most = lit≤ r }
 
--- the contractor of an arc's points: from the first to the last that it holds, and that it does not hold
+-- an arc as a reading
 abbrev pub bearing : Arc → Meaning Arc
-bearing a =
-    meaning (holds a) (λ x. along x (run (λ i. holds a (point (x .start) i)) 0 (x .len)))
-    (λ x. along x (run (λ i. not (holds a (point (x .start) i))) 0 (x .len)))
+bearing a = meaning (holds a) (kept a) (dropped a)
 
 abbrev pub bearings : List (Meaning Arc)
 bearings = bearing (arc 10 5 tt tt tt) ∷ bearing (arc 12 5 tt tt tt) ∷ bearing (arc 100 5 tt tt tt) ∷ []

@@ -1,4 +1,7 @@
 // Worked trials of the library, printed one after the other.
+mod bearings;
+mod narrowed;
+mod planners;
 mod remainder;
 mod square;
 mod watch;
@@ -11,5 +14,8 @@ fn main(rt: LibcRuntime) -> Result<(), AnyError> {
 
 fn run(rt: &impl Print) -> Result<(), AnyError> {
     watch::run(rt)?;
-    square::run(rt)
+    square::run(rt)?;
+    narrowed::run(rt)?;
+    bearings::run(rt)?;
+    planners::run(rt)
 }

@@ -1,0 +1,10 @@
+pub mod Counting
+pub mod Parting
+pub mod Piling
+pub mod Gaming
+pub mod Rolling
+pub mod Searching
+pub mod Showing
+pub mod Storing
+pub mod Striding
+pub mod Turning
