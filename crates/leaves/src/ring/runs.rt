@@ -1,4 +1,4 @@
-// From the first to the last live column, and the last live row, of a ring.
+// From the first to the last live column, or row, of a ring.
 ghost use Prim.Native.Nat.{suc, _+_, _-_, min, _≤_};
 ghost use mathlib.Core.Bool.{_&&_, _||_};
 ghost use mathlib.Core.Path.{_≡_};
@@ -15,8 +15,8 @@ use scan::live::Live;
 use scan::live::live_run;
 use scan::stretch::Stretch;
 
-// What the test of an index needs, all of it but the beacon's number along squared: the least and the greatest
-// distance across, and the two radii.
+// What the test of an index needs: the beacon's number along and, squared, the least and the greatest distance
+// across and the two radii.
 #[derive(Clone, Copy)]
 struct Reach {
     along: i16,
