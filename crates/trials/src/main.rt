@@ -1,7 +1,6 @@
 // Worked trials of the library, printed one after the other.
 mod bearings;
 mod narrowed;
-mod planners;
 mod remainder;
 mod square;
 mod watch;
@@ -16,6 +15,5 @@ fn run(rt: &impl Print) -> Result<(), AnyError> {
     watch::run(rt)?;
     square::run(rt)?;
     narrowed::run(rt)?;
-    bearings::run(rt)?;
-    planners::run(rt)
+    bearings::run(rt)
 }

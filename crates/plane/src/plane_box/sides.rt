@@ -27,14 +27,14 @@ impl PlaneBox {
     }
 
     // How many columns it has.
-    pub fn wide(&self) -> u32
+    pub(crate) fn wide(&self) -> u32
         ensures { λ r. ⌜ r ≡ wide-of (now (self .entry)) ⌝ }
     {
         u32::from(self.x1 - self.x0) + 1
     }
 
     // How many rows it has.
-    pub fn tall(&self) -> u32
+    pub(crate) fn tall(&self) -> u32
         ensures { λ r. ⌜ r ≡ tall-of (now (self .entry)) ⌝ }
     {
         u32::from(self.y1 - self.y0) + 1

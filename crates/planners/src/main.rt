@@ -43,7 +43,11 @@ const TURNS: [Turn; 13] = [
     Turn::Tally,
 ];
 
-pub(crate) fn run(rt: &impl Print) -> Result<(), AnyError> {
+fn main(rt: LibcRuntime) -> Result<(), AnyError> {
+    rt.report(run(&rt))
+}
+
+fn run(rt: &impl Print) -> Result<(), AnyError> {
     let mut memory = [bearing(0, 1)?; 3];
     let list = entered(&mut memory, [10, 12, 100])?;
     let mut sheet = Sheet::open(Relaxed::new(list, 1)?, Arc::new(0, 3600)?, Grain::new(1)?);
