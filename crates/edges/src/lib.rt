@@ -1,4 +1,6 @@
 // Tests at the edges, and a tiny domain that shows how little the laws ask.
+#![tactic(auto)]
+
 #[cfg(test)]
 mod dial_tests;
 #[cfg(test)]

@@ -1,4 +1,6 @@
 // Layers: contractors made of others.
+#![tactic(auto)]
+
 pub mod both;
 pub mod either;
 pub mod fixed;

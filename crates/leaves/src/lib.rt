@@ -1,4 +1,6 @@
 // The leaves: the contractors that readings are made of.
+#![tactic(auto)]
+
 pub mod arc;
 pub mod cone;
 mod crossing;

@@ -1,4 +1,6 @@
 // Panels of contractors, and the drafts that readings are entered into.
+#![tactic(auto)]
+
 pub mod draft;
 pub mod entered;
 pub mod entries;

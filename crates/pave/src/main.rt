@@ -1,4 +1,6 @@
 // `pave`: a readings file from standard input; its listing, or its one fault, to standard output.
+#![tactic(auto)]
+
 use std::io::Read;
 use survey::pave::pave;
 

@@ -1,4 +1,6 @@
 // What a sheet is: its states, its turns, what they answer, and the laws that hold after every list of turns.
+#![tactic(auto)]
+
 pub mod answers;
 pub mod classes;
 pub mod laws;

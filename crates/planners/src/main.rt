@@ -1,4 +1,6 @@
 // Several planners in turn at one sheet, and the same turns over the readings in another order.
+#![tactic(auto)]
+
 use contractor::contractor::Contractor;
 use dial::arc::Arc;
 use domain::refusal::Refusal;

@@ -1,4 +1,6 @@
 // Lists of turns, played on a sheet over one contractor and over two.
+#![tactic(auto)]
+
 pub mod both_plays;
 pub mod numbers;
 pub mod plays;

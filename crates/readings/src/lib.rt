@@ -1,4 +1,6 @@
 // The readings file: what its lines mean, and how the first fault is told.
+#![tactic(auto)]
+
 mod body;
 mod entries;
 mod entry;

@@ -1,4 +1,6 @@
 // A sheet: it paves a start piece, turn by turn.
+#![tactic(auto)]
+
 pub mod cut;
 mod cutting;
 mod finding;

@@ -1,4 +1,6 @@
 // Readings and sheets at their edges: tests alone.
+#![tactic(auto)]
+
 #[cfg(test)]
 mod leaf_tests;
 #[cfg(test)]

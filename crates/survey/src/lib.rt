@@ -1,4 +1,6 @@
 // From a readings file to the text that is printed for it.
+#![tactic(auto)]
+
 mod draft;
 mod kinds;
 mod layered;

@@ -1,4 +1,6 @@
 // Values worked out by hand, which the definitions give.
+#![tactic(auto)]
+
 ghost use Rattle.leaves.specs.Worked.{WorkedArc, WorkedCone, WorkedRing};
 ghost use Rattle.plane.specs.Promises.{Worked};
 ghost use Rattle.table.specs.Paving.{Paved};

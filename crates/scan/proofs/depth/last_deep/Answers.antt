@@ -3,7 +3,7 @@ use Rattle.std.proofs.lemmas.Bool.{le-leb, lt-leb}
 use Rattle.scan.specs.Depth.{deep, depth, Latest}
 use Rattle.scan.proofs.Depths.{values_more, values_all, latest_yes, latest_no}
 use Rattle.scan.proofs.depth.last_deep.Goals as goal
-use Rattle.scan.proofs.depth.last_deep.Goals.{then-depth-at-least, else-depth-at-least}
+use Rattle.scan.proofs.depth.last_deep.Goals.{then-depth_at-least, else-depth_at-least}
 
 pub loop-member-preserved : goal.loop-member-preserved
 loop-member-preserved g c =
@@ -12,14 +12,14 @@ loop-member-preserved g c =
     let t : ℕ → Bool = deep c.args.least (map f ns) in
     let edges : List ℕ = map (λ n. (f n).high) (take c.loop-member.member-index ns) in
     let edge : ℕ = c.stretch-edge.result.high in
-    let more = values_more (λ es. Latest t es c.if-depth-at-least.best) (λ n. (f n).high) ns c.loop-member.member-index edge c.loop-member-test.true (ap (λ s. s.high) c.stretch-edge.ensures) in
-    elim c.if-depth-at-least.branch [
-      | then-depth-at-least w ↦
+    let more = values_more (λ es. Latest t es c.if-depth_at-least.best) (λ n. (f n).high) ns c.loop-member.member-index edge c.loop-member-test.true (ap (λ s. s.high) c.stretch-edge.ensures) in
+    elim c.if-depth_at-least.branch [
+      | then-depth_at-least w ↦
           more (subst (Latest t _) (sym (w.best-is ∙ ap Some w.later.ensures))
-          (latest_yes t edges edge c.loop-member.best c.loop-member.invariant (le-leb c.args.least (depth (map f ns) edge) (omega (arith, w.if-depth-at-least.true, c.depth_at.ensures)))))
-      | else-depth-at-least w ↦
+          (latest_yes t edges edge c.loop-member.best c.loop-member.invariant (le-leb c.args.least (depth (map f ns) edge) (omega (arith, w.if-depth_at-least.true, c.depth_at.ensures)))))
+      | else-depth_at-least w ↦
           more (subst (Latest t _) (sym w.best-is)
-          (latest_no t edges edge c.loop-member.best c.loop-member.invariant (lt-leb c.args.least (depth (map f ns) edge) (omega (arith, w.if-depth-at-least.false, c.depth_at.ensures)))))
+          (latest_no t edges edge c.loop-member.best c.loop-member.invariant (lt-leb c.args.least (depth (map f ns) edge) (omega (arith, w.if-depth_at-least.false, c.depth_at.ensures)))))
     ]
 
 pub returns : goal.returns
