@@ -8,7 +8,7 @@ use Rattle.domain.specs.Maps.{Maps}
 use Rattle.contractor.specs.Meaning.{Meaning}
 use Rattle.contractor.specs.Rearranged.{Paired}
 use Rattle.contractor.specs.Rearranged.Rearranged.{same}
-use Rattle.contractor.specs.Rearranged.Paired.{none as no_pairs, one as one-pair}
+use Rattle.contractor.specs.Rearranged.Paired.{none as no_pairs, one as one_pair}
 
 -- the first stands anywhere in the other list, and the rest are those left there, in some order
 data Reordered {X : Type 0} : List X → List X → Type 0 where
@@ -100,7 +100,7 @@ module _ {P : Type 0} (d : Maps P) {X : Type 0} (means : X → Meaning P) where
   reordered_paired none = no_pairs
   reordered_paired (one {x = x} {xs = xs} front back h) =
       subst (Paired d (means x ∷ map means xs)) (sym (map-append means front (x ∷ back)))
-      (one-pair (map means front) (map means back) (same (record { keep = λ _. refl; shed = λ _. refl })) (subst (Paired d (map means xs)) (map-append means front back) (reordered_paired h)))
+      (one_pair (map means front) (map means back) (same (record { keep = λ _. refl; shed = λ _. refl })) (subst (Paired d (map means xs)) (map-append means front back) (reordered_paired h)))
 
   -- readings in another order: the contractors that they mean pair off
   pub shuffled_paired : (xs ys : List X) → IsPermutation xs ys → Paired d (map means xs) (map means ys)

@@ -1,8 +1,8 @@
 // An arc as a contractor of the dial: its set is the points that it holds.
 ghost use Rattle.std.specs.Prelude.{◌≡◌, ◌<◌, ◌≤◌, IfSome};
 ghost use Rattle.scan.specs.Live.{run};
-ghost use Rattle.dial.specs.Arcs.{along as along-of, holds as holds_of, point as point-of};
-ghost use Rattle.leaves.specs.Arcs.{held, missed, kept as kept_by, dropped as dropped-by};
+ghost use Rattle.dial.specs.Arcs.{along as along_of, holds as holds_of, point as point_of};
+ghost use Rattle.leaves.specs.Arcs.{held, missed, kept as kept_by, dropped as dropped_by};
 ghost use Rattle.leaves.specs.Sweeps.{arc_sound};
 
 use contractor::contractor::Contractor;
@@ -13,7 +13,7 @@ use scan::stretch::Stretch;
 
 // The point that lies `index` places past `start`, going round.
 fn point_past(start: u16, index: u32) -> u32
-    ensures { (result ≡ point-of start index) × (result < 3600) }
+    ensures { (result ≡ point_of start index) × (result < 3600) }
 {
     ((u64::from(start) + u64::from(index)) % 3600) as u32
 }
@@ -73,7 +73,7 @@ fn missed_run(arc: &Arc, piece: &Arc) -> Option<Stretch>
 // A run of the places of a piece as an arc.
 fn along(piece: &Arc, places: Option<Stretch>) -> Option<Arc>
     requires { IfSome places (λ s. (s.low ≤ s.high) × (s.high < piece.now.len)) }
-    ensures { result ≡ along-of piece.now places }
+    ensures { result ≡ along_of piece.now places }
 {
     let Some(Stretch { low, high }) = places else {
         return None;
@@ -98,7 +98,7 @@ impl Contractor for ArcReading {
 
     ghost kept = { λ c x. kept_by c.arc x };
 
-    ghost dropped = { λ c x. dropped-by c.arc x };
+    ghost dropped = { λ c x. dropped_by c.arc x };
 
     ghost sound = { λ c. arc_sound c.arc };
 

@@ -8,8 +8,8 @@ use scan::stretch::Stretch;
 
 // Nothing if either is empty.
 pub(crate) fn crossing(columns: Option<Stretch>, rows: Option<Stretch>) -> Option<PlaneBox>
-    requires short { Short columns }
-    requires short_2 { Short rows }
+    requires columns_short { Short columns }
+    requires rows_short { Short rows }
     ensures { result ≡ crossed columns rows }
 {
     let Some(across) = columns else {

@@ -72,8 +72,8 @@ module _ {P : Type 0} (t : Task P) (l : Laws t.maps) (set : ℕ → Bool) (sound
       pub step_shows : (r : Result ℕ Refusal) (u : Store P) → Recorded s c r u → (step_answer r ≡ (turn t Step x).value) × Shows t u (turn t Step x).after
       step_shows (Ok n) u m =
           let e = step_room (omega (arith, m.0, m.1, ap length made.records)) in
-          let n-is : n ≡ length (step_entries t p) = m.0 ∙ ap length made.records in
-          (ap Stepped n-is ∙ sym (ap (λ q. (answered Stepped q x).value) e), subst (λ q. Shows t u (answered Stepped q x).after) (sym e) (moved_shows u m.2))
+          let counted_is : n ≡ length (step_entries t p) = m.0 ∙ ap length made.records in
+          (ap Stepped counted_is ∙ sym (ap (λ q. (answered Stepped q x).value) e), subst (λ q. Shows t u (answered Stepped q x).after) (sym e) (moved_shows u m.2))
       step_shows (Err i) u m =
           let e = step_crowded (omega (arith, m.1 slack_stands, ap length made.records)) in
           (ap (λ j. step_answer (Err j)) m.0 ∙ sym (ap (λ q. (answered Stepped q x).value) e), subst (λ q. Shows t u (answered Stepped q x).after) (sym e) (subst (λ v. Shows t v x) (sym m.2) h))

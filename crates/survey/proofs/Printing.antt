@@ -1,9 +1,9 @@
 -- What follows from what is printed.
 use Rattle.std.proofs.Common.{ℕ, List, Ok, ◌∙◌, subst}
 use Rattle.dial.specs.Arcs.{dial}
-use Rattle.dial.specs.Lawful.{lawful as dial-lawful}
+use Rattle.dial.specs.Lawful.{lawful as dial_lawful}
 use Rattle.plane.specs.Boxes.{plane}
-use Rattle.plane.specs.Lawful.{lawful as plane-lawful}
+use Rattle.plane.specs.Lawful.{lawful as plane_lawful}
 use Rattle.contractor.specs.Meaning.{Sound}
 use Rattle.leaves.specs.declared.plane_reading.PlaneReading.{PlaneReading}
 use Rattle.leaves.specs.declared.plane_reading.PlaneReading.TheVariants.{Ring, Cone}
@@ -45,7 +45,7 @@ ordered file text p (on_plane m) other form r =
     let was = printed file text p (on_plane m) (comes_written file (on_plane m) form) in (
       u,
       has,
-      λ same q. same_text m z.0 z.2 plane plane-lawful plane_meaning plane_sound form.0 box_text text same was (printed other same q u (comes_written other u has)),
+      λ same q. same_text m z.0 z.2 plane plane_lawful plane_meaning plane_sound form.0 box_text text same was (printed other same q u (comes_written other u has)),
     )
 ordered file text p (on_dial m) other form r =
     let z = unmapped arc_line m.readings r.lines r.moved in
@@ -54,5 +54,5 @@ ordered file text p (on_dial m) other form r =
     let was = printed file text p (on_dial m) (comes_written file (on_dial m) form) in (
       u,
       has,
-      λ same q. same_text m z.0 z.2 dial dial-lawful dial_meaning (λ a. arc_sound a.arc) form.0 arc_text text same was (printed other same q u (comes_written other u has)),
+      λ same q. same_text m z.0 z.2 dial dial_lawful dial_meaning (λ a. arc_sound a.arc) form.0 arc_text text same was (printed other same q u (comes_written other u has)),
     )

@@ -1,9 +1,9 @@
 // The listings of the two kinds of sheets.
 ghost use Rattle.std.specs.Prelude.{IfOk, string_bytes};
-ghost use Rattle.dial.specs.Arcs.{dial as the-dial};
-ghost use Rattle.plane.specs.Boxes.{plane as the-plane};
+ghost use Rattle.dial.specs.Arcs.{dial as dial_maps};
+ghost use Rattle.plane.specs.Boxes.{plane as plane_maps};
 ghost use Rattle.readings.specs.Files.{Makes, Sensible};
-ghost use Rattle.readings.specs.Requests.{asked as meant-by, meant};
+ghost use Rattle.readings.specs.Requests.{asked as meant_by, meant};
 ghost use Rattle.survey.specs.Texts.{Paves, Paving, arc_text, box_text, dial_meaning, plane_meaning};
 
 use crate::listed::listed;
@@ -16,7 +16,7 @@ use std::alloc::{AllocError, Global};
 
 fn plane_text(heap: Global, request: &Request<PlaneBox, PlaneReading>) -> Result<String, AllocError>
     requires { Sensible (meant request.now) }
-    ensures { IfOk result (λ t. Paving the-plane plane_meaning box_text (meant request.now) (string_bytes t)) }
+    ensures { IfOk result (λ t. Paving plane_maps plane_meaning box_text (meant request.now) (string_bytes t)) }
 {
     let readings = request.readings.all();
     let mut memory = [readings[0]; 16];
@@ -26,7 +26,7 @@ fn plane_text(heap: Global, request: &Request<PlaneBox, PlaneReading>) -> Result
 
 fn dial_text(heap: Global, request: &Request<Arc, ArcReading>) -> Result<String, AllocError>
     requires { Sensible (meant request.now) }
-    ensures { IfOk result (λ t. Paving the-dial dial_meaning arc_text (meant request.now) (string_bytes t)) }
+    ensures { IfOk result (λ t. Paving dial_maps dial_meaning arc_text (meant request.now) (string_bytes t)) }
 {
     let readings = request.readings.all();
     let mut memory = [readings[0]; 16];
@@ -36,8 +36,8 @@ fn dial_text(heap: Global, request: &Request<Arc, ArcReading>) -> Result<String,
 
 // The listing of what a file asks for, of whichever kind.
 pub(crate) fn asked_text(heap: Global, asked: &Asked) -> Result<String, AllocError>
-    requires { Makes (meant-by asked.now) }
-    ensures { IfOk result (λ t. Paves (meant-by asked.now) (string_bytes t)) }
+    requires { Makes (meant_by asked.now) }
+    ensures { IfOk result (λ t. Paves (meant_by asked.now) (string_bytes t)) }
 {
     match asked {
         Asked::Plane(request) => plane_text(heap, request),

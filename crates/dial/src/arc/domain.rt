@@ -67,8 +67,8 @@ impl Domain for Arc {
 
     // The span is the smallest sub-piece that holds the points of both.
     fn span(&self, one: Option<Arc>, other: Option<Arc>) -> Result<Option<Arc>, Refusal>
-        ensures given { Given result 1 (Fits dial self.now one × Fits dial self.now other) (λ s. s ≡ dial.span self.now one other) }
-        ensures ok { IfOk result (λ s. Smallest dial self.now (λ n. Holds dial one n ⊎ Holds dial other n) s) }
+        ensures value { Given result 1 (Fits dial self.now one × Fits dial self.now other) (λ s. s ≡ dial.span self.now one other) }
+        ensures smallest { IfOk result (λ s. Smallest dial self.now (λ n. Holds dial one n ⊎ Holds dial other n) s) }
     {
         if !self.takes(one) || !self.takes(other) {
             return Err(Refusal::NotAPiece);
@@ -84,8 +84,8 @@ impl Domain for Arc {
 
     // The gathering is the smallest sub-piece that holds every point that at least `depth` members hold.
     fn gather(&self, members: &[u64], depth: usize) -> Result<Option<Arc>, Refusal>
-        ensures given { Given result 1 ((0 < depth) × Members dial self.now members.now) (λ s. Gathered dial self.now members.now depth s) }
-        ensures ok { IfOk result (λ s. MatchOption (pieces dial members.now) ⊥ (λ ps. Smallest dial self.now (λ n. depth ≤ times dial n ps) s)) }
+        ensures value { Given result 1 ((0 < depth) × Members dial self.now members.now) (λ s. Gathered dial self.now members.now depth s) }
+        ensures smallest { IfOk result (λ s. MatchOption (pieces dial members.now) ⊥ (λ ps. Smallest dial self.now (λ n. depth ≤ times dial n ps) s)) }
     {
         if depth == 0 || !self.has_members(members) {
             return Err(Refusal::NotAPiece);

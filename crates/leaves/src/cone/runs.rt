@@ -1,7 +1,7 @@
 // From the first to the last live column of a cone. The rows are the columns of the cone turned over.
 ghost use Rattle.std.specs.Prelude.{◌≡◌, suc, ◌-◌, ◌≤◌, min, ◌&&◌, ◌||◌, pos, ◌-ℤ◌, ◌*ℤ◌, int_le, int_lt, unsigned_abs};
 ghost use Rattle.scan.specs.Live.{run};
-ghost use Rattle.leaves.specs.Cones.{offset as offset-of, keeps, sheds, most, fewest};
+ghost use Rattle.leaves.specs.Cones.{offset as offset_of, keeps, sheds, most, fewest};
 ghost use Rattle.leaves.specs.Judged.{OnPlane, Short};
 
 use crate::cone::Cone;
@@ -63,14 +63,14 @@ impl Slopes {
 
     // The first product sum. An index beyond the plane counts as the last one.
     fn ahead(&self, index: u32) -> i32
-        ensures { result ≡ self.now.first -ℤ self.now.taken *ℤ offset-of self.now.along (min index 4095) }
+        ensures { result ≡ self.now.first -ℤ self.now.taken *ℤ offset_of self.now.along (min index 4095) }
     {
         self.first - product(self.taken, offset(self.along, index.min(4095)))
     }
 
     // The second.
     fn behind(&self, index: u32) -> i32
-        ensures { result ≡ self.now.given *ℤ offset-of self.now.along (min index 4095) -ℤ self.now.second }
+        ensures { result ≡ self.now.given *ℤ offset_of self.now.along (min index 4095) -ℤ self.now.second }
     {
         product(self.given, offset(self.along, index.min(4095))) - self.second
     }
@@ -83,7 +83,7 @@ struct Keeps {
 }
 
 impl Live for Keeps {
-    ghost live = { λ t i. int_le (pos 0) (t.slopes.first -ℤ t.slopes.taken *ℤ offset-of t.slopes.along (min i 4095)) && int_le (pos 0) (t.slopes.given *ℤ offset-of t.slopes.along (min i 4095) -ℤ t.slopes.second) };
+    ghost live = { λ t i. int_le (pos 0) (t.slopes.first -ℤ t.slopes.taken *ℤ offset_of t.slopes.along (min i 4095)) && int_le (pos 0) (t.slopes.given *ℤ offset_of t.slopes.along (min i 4095) -ℤ t.slopes.second) };
 
     fn is_live(&self, index: u32) -> bool {
         self.slopes.ahead(index) >= 0 && self.slopes.behind(index) >= 0
@@ -97,7 +97,7 @@ struct Sheds {
 }
 
 impl Live for Sheds {
-    ghost live = { λ t i. int_lt (t.slopes.first -ℤ t.slopes.taken *ℤ offset-of t.slopes.along (min i 4095)) (pos 0) || int_lt (t.slopes.given *ℤ offset-of t.slopes.along (min i 4095) -ℤ t.slopes.second) (pos 0) };
+    ghost live = { λ t i. int_lt (t.slopes.first -ℤ t.slopes.taken *ℤ offset_of t.slopes.along (min i 4095)) (pos 0) || int_lt (t.slopes.given *ℤ offset_of t.slopes.along (min i 4095) -ℤ t.slopes.second) (pos 0) };
 
     fn is_live(&self, index: u32) -> bool {
         self.slopes.ahead(index) < 0 || self.slopes.behind(index) < 0

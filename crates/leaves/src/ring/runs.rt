@@ -2,7 +2,7 @@
 ghost use Rattle.std.specs.Prelude.{◌≡◌, suc, ◌+◌, ◌-◌, ◌≤◌, min, ◌&&◌, ◌||◌, nat_le, nat_lt};
 ghost use Rattle.scan.specs.Live.{run};
 ghost use Rattle.leaves.specs.Judged.{OnPlane, Short};
-ghost use Rattle.leaves.specs.Rings.{square as square-of, distance as distance-of, nearest as nearest-of, farthest as farthest-of, keeps, sheds};
+ghost use Rattle.leaves.specs.Rings.{square as square_of, distance as distance_of, nearest as nearest_of, farthest as farthest_of, keeps, sheds};
 
 use crate::ring::Ring;
 use crate::ring::distances::{distance, farthest, nearest, square};
@@ -26,10 +26,10 @@ impl Reach {
     fn new(ring: &Ring, along: i16, across: i16, stretch: Stretch) -> Reach
         requires { OnPlane stretch }
         ensures along { result.along ≡ along }
-        ensures near { result.near ≡ square-of (nearest-of across stretch) }
-        ensures far { result.far ≡ square-of (farthest-of across stretch) }
-        ensures inner { result.inner ≡ square-of ring.now.inner }
-        ensures outer { result.outer ≡ square-of ring.now.outer }
+        ensures near { result.near ≡ square_of (nearest_of across stretch) }
+        ensures far { result.far ≡ square_of (farthest_of across stretch) }
+        ensures inner { result.inner ≡ square_of ring.now.inner }
+        ensures outer { result.outer ≡ square_of ring.now.outer }
     {
         Reach {
             along,
@@ -42,7 +42,7 @@ impl Reach {
 
     // The square of the distance along. An index beyond the plane counts as the last one.
     fn at(&self, index: u32) -> u32
-        ensures { (result ≡ square-of (distance-of self.now.along (min index 4095))) × (result ≤ 1358880769) }
+        ensures { (result ≡ square_of (distance_of self.now.along (min index 4095))) × (result ≤ 1358880769) }
     {
         square(distance(self.along, index.min(4095)))
     }
@@ -55,7 +55,7 @@ struct Keeps {
 }
 
 impl Live for Keeps {
-    ghost live = { λ t i. nat_le (square-of (distance-of t.reach.along (min i 4095)) + t.reach.near) t.reach.outer && nat_le t.reach.inner (square-of (distance-of t.reach.along (min i 4095)) + t.reach.far) };
+    ghost live = { λ t i. nat_le (square_of (distance_of t.reach.along (min i 4095)) + t.reach.near) t.reach.outer && nat_le t.reach.inner (square_of (distance_of t.reach.along (min i 4095)) + t.reach.far) };
 
     fn is_live(&self, index: u32) -> bool {
         let along = self.reach.at(index);
@@ -70,7 +70,7 @@ struct Sheds {
 }
 
 impl Live for Sheds {
-    ghost live = { λ t i. nat_lt (square-of (distance-of t.reach.along (min i 4095)) + t.reach.near) t.reach.inner || nat_lt t.reach.outer (square-of (distance-of t.reach.along (min i 4095)) + t.reach.far) };
+    ghost live = { λ t i. nat_lt (square_of (distance_of t.reach.along (min i 4095)) + t.reach.near) t.reach.inner || nat_lt t.reach.outer (square_of (distance_of t.reach.along (min i 4095)) + t.reach.far) };
 
     fn is_live(&self, index: u32) -> bool {
         let along = self.reach.at(index);

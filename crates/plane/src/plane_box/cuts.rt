@@ -1,6 +1,6 @@
 // Boxes cut in two, and so many columns or rows of a box.
 ghost use Rattle.std.specs.Prelude.{◌≡◌, ◌+◌, ◌/◌, ◌<◌, ◌≤◌};
-ghost use Rattle.plane.specs.Boxes.{HasNumbers, cells, wide as wide_of, tall as tall-of, cut_columns, cut_rows};
+ghost use Rattle.plane.specs.Boxes.{HasNumbers, cells, wide as wide_of, tall as tall_of, cut_columns, cut_rows};
 
 use crate::plane_box::PlaneBox;
 
@@ -42,7 +42,7 @@ impl PlaneBox {
 
     // The first row of the high half: half of the rows, rounded down, come before it.
     fn middle_row(&self) -> u16
-        ensures { result ≡ self.now.y0 + tall-of self.now / 2 }
+        ensures { result ≡ self.now.y0 + tall_of self.now / 2 }
     {
         self.y0 + (self.y1 - self.y0 + 1) / 2
     }
@@ -61,8 +61,8 @@ impl PlaneBox {
 
     // The first half of the rows, and the rest.
     pub(crate) fn halve_rows(&self) -> (PlaneBox, PlaneBox)
-        requires { 1 < tall-of self.now }
-        ensures { result ≡ cut_rows self.now (tall-of self.now / 2) }
+        requires { 1 < tall_of self.now }
+        ensures { result ≡ cut_rows self.now (tall_of self.now / 2) }
     {
         let middle = self.middle_row();
         (
@@ -74,7 +74,7 @@ impl PlaneBox {
     // So many columns from x on, over all rows; nothing if there is none.
     pub(crate) fn columns_from(&self, x: u16, columns: u16) -> Option<PlaneBox>
         requires { x + columns ≤ 4096 }
-        ensures { result ≡ cells x self.now.y0 columns (tall-of self.now) }
+        ensures { result ≡ cells x self.now.y0 columns (tall_of self.now) }
     {
         if columns == 0 {
             return None;

@@ -1,6 +1,6 @@
 // The two sides of a box, and how long each is.
 ghost use Rattle.std.specs.Prelude.{◌≡◌, nat_le};
-ghost use Rattle.plane.specs.Boxes.{columns as columns_of, rows as rows_of_lem, wide as wide_of, tall as tall-of};
+ghost use Rattle.plane.specs.Boxes.{columns as columns_of, rows as rows_of, wide as wide_of, tall as tall_of};
 ghost use Rattle.plane.specs.Gathering.{columns_numbered, rows_numbered};
 
 use crate::plane_box::PlaneBox;
@@ -18,7 +18,7 @@ impl PlaneBox {
     }
 
     pub fn rows(&self) -> Stretch
-        ensures { result ≡ rows_of_lem self.now }
+        ensures { result ≡ rows_of self.now }
     {
         Stretch {
             low: u32::from(self.y0),
@@ -35,14 +35,14 @@ impl PlaneBox {
 
     // How many rows it has.
     pub(crate) fn tall(&self) -> u32
-        ensures { result ≡ tall-of self.now }
+        ensures { result ≡ tall_of self.now }
     {
         u32::from(self.y1 - self.y0) + 1
     }
 
     // Whether there are at least as many columns as rows, so that they are what is cut.
     pub(crate) fn is_cut_by_columns(&self) -> bool
-        ensures { result ≡ nat_le (tall-of self.now) (wide_of self.now) }
+        ensures { result ≡ nat_le (tall_of self.now) (wide_of self.now) }
     {
         self.tall() <= self.wide()
     }

@@ -2,7 +2,7 @@
 ghost use Rattle.std.specs.Prelude.{◌≡◌, min, max, Decides};
 ghost use Rattle.domain.specs.Maps.{Fits};
 ghost use Rattle.plane.specs.declared.plane_box.PlaneBox.{PlaneBox as Boxed};
-ghost use Rattle.plane.specs.Boxes.{HasNumbers, span as Span-of, crossed, plane};
+ghost use Rattle.plane.specs.Boxes.{HasNumbers, span as SpanOf, crossed, plane};
 ghost use Rattle.plane.specs.Gathering.{Short};
 
 use crate::plane_box::PlaneBox;
@@ -41,7 +41,7 @@ impl PlaneBox {
 
     // The smallest box that holds two, either of which may be nothing.
     pub(crate) fn enclosing(one: Option<PlaneBox>, other: Option<PlaneBox>) -> Option<PlaneBox>
-        ensures { (x : Boxed) → result ≡ Span-of x one other }
+        ensures { (x : Boxed) → result ≡ SpanOf x one other }
     {
         let Some(first) = one else {
             return other;
@@ -54,8 +54,8 @@ impl PlaneBox {
 
     // The box of a run of columns and a run of rows; nothing if either is empty.
     pub(crate) fn crossing(columns: Option<Stretch>, rows: Option<Stretch>) -> Option<PlaneBox>
-        requires short { Short columns }
-        requires short_2 { Short rows }
+        requires columns_short { Short columns }
+        requires rows_short { Short rows }
         ensures { result ≡ crossed columns rows }
     {
         let Some(across) = columns else {

@@ -4,10 +4,10 @@ use Rattle.numerals.proofs.Digits.{Looks, looks, digit_in, short, digits_more, r
 use Rattle.numerals.proofs.read.read_digits.Goals as goal
 use Rattle.numerals.proofs.read.read_digits.Goals.{then-digit-lt48-via-then-digit-lt48, then-digit-lt48-via-else-digit-lt48+then-digit-gt57}
 
-pub returns-then-not-may-be-digits : goal.returns-then-not-may-be-digits
-returns-then-not-may-be-digits c n l e =
+pub returns-then-not-may_be_digits : goal.returns-then-not-may_be_digits
+returns-then-not-may_be_digits c n l e =
     let k = looks c.args.text.now n l e in
-    not_from_Decides c.may-be-digits.result c.may-be-digits.ensures c.if-not-may-be-digits.true (k.some, k.few, k.zero_alone)
+    not_from_Decides c.may_be_digits.result c.may_be_digits.ensures c.if-not-may_be_digits.true (k.some, k.few, k.zero_alone)
 
 pub returns-then-digit-lt48 : goal.returns-then-digit-lt48
 returns-then-digit-lt48 c n l e =
@@ -18,15 +18,15 @@ returns-then-digit-lt48 c n l e =
       | then-digit-lt48-via-else-digit-lt48+then-digit-gt57 w ↦ omega (arith, d, w.if-digit-gt57.true)
     ]
 
-pub overflow-mul-value : goal.overflow-mul-value
-overflow-mul-value c =
-    let s = c.may-be-digits.ensures.0 c.if-not-may-be-digits.false in
+pub overflow_mul-value : goal.overflow_mul-value
+overflow_mul-value c =
+    let s = c.may_be_digits.ensures.0 c.if-not-may_be_digits.false in
     let v = short c.args.text.now c.loop-digit.digit-index s.1 c.loop-digit.invariant.0 in
     record { fits = omega (arith, v, c.loop-digit.invariant.1) }
 
-pub overflow-add-value : goal.overflow-add-value
-overflow-add-value c =
-    let s = c.may-be-digits.ensures.0 c.if-not-may-be-digits.false in
+pub overflow_add-value : goal.overflow_add-value
+overflow_add-value c =
+    let s = c.may_be_digits.ensures.0 c.if-not-may_be_digits.false in
     let v = short c.args.text.now c.loop-digit.digit-index s.1 c.loop-digit.invariant.0 in
     record { fits = omega (arith, v, c.loop-digit.invariant.1, c.from.ensures, c.if-digit-gt57.false) }
 
@@ -38,5 +38,5 @@ loop-digit-preserved c = (
 
 pub returns : goal.returns
 returns c =
-    let s = c.may-be-digits.ensures.0 c.if-not-may-be-digits.false in
+    let s = c.may_be_digits.ensures.0 c.if-not-may_be_digits.false in
     whole c.args.text.now c.loop-digit.digit-index c.loop-digit.value s.0 s.1 s.2 c.loop-digit-test.false c.loop-digit.invariant.0 c.loop-digit.invariant.1

@@ -4,17 +4,17 @@ use Rattle.numerals.proofs.Cuts.{never_cut}
 use Rattle.std.specs.Fmt.{signed_decimal}
 use Rattle.numerals.proofs.values.first_number.Goals as goal
 
-pub returns-in-default : goal.returns-in-default
-returns-in-default c z rest f e = never_cut 44 c.args.text.now (signed_decimal z) rest c.in-default.ensures e
+pub returns-in_default : goal.returns-in_default
+returns-in_default c z rest f e = never_cut 44 c.args.text.now (signed_decimal z) rest c.in_default.ensures e
 
-pub returns-in-default-read-number : goal.returns-in-default-read-number
-returns-in-default-read-number c z rest f e =
+pub returns-in_default-read_number : goal.returns-in_default-read_number
+returns-in_default-read_number c z rest f e =
     let r = first_of z c.in-Some.front.now c.in-Some.rest.now rest c.args.text.now f c.in-Some.ensures e in
-    c.in-default-read-number.ensures z f r.0
+    c.in_default-read_number.ensures z f r.0
 
 pub returns : goal.returns
 returns c =
-    let z = c.in-Some-read-number.number in
-    let f : SFits w32 c.in-Some-read-number.number = search rules in
+    let z = c.in-Some-read_number.number in
+    let f : SFits w32 c.in-Some-read_number.number = search rules in
     subst (λ (y : ℤ). Headed c.args.text.now y c.in-Some.rest.now × SFits w32 y) (sym (to_z-of_z f))
-    (headed z c.args.text.now c.in-Some.front.now c.in-Some.rest.now c.in-Some.ensures c.in-Some-read-number.ensures, f)
+    (headed z c.args.text.now c.in-Some.front.now c.in-Some.rest.now c.in-Some.ensures c.in-Some-read_number.ensures, f)

@@ -1,7 +1,7 @@
 use Rattle.numerals.proofs.Commas.{alone}
 use Rattle.numerals.proofs.values.one_number.Goals as goal
 
-pub returns-in-default : goal.returns-in-default
-returns-in-default c zs l =
+pub returns-in_default : goal.returns-in_default
+returns-in_default c zs l =
     let a = alone c.args.text.now zs l in
-    c.in-default.ensures a.0 a.1 a.2
+    c.in_default.ensures a.0 a.1 a.2

@@ -11,4 +11,4 @@ returns-then-columns-eq0 c =
 pub returns : goal.returns
 returns c =
     let p = c.args.self.now in
-    sym (cells_made c.args.x p.y0 c.args.columns (tall p) c.with-columns.result (omega arith, omega arith, omega arith, omega arith))
+    sym (cells_made c.args.x p.y0 c.args.columns (tall p) c.with_columns.result (omega arith, omega arith, omega arith, omega arith))

@@ -7,5 +7,5 @@ pub returns : goal.returns
 returns c =
     let p = c.args.self.now in
     ap₂ (λ a b. (a, b))
-    (cells_picked p.x0 p.y0 (wide p) (tall p / 2) c.with-rows.result p (omega arith, omega arith, omega arith, omega arith))
-    (cells_picked p.x0 (p.y0 + tall p / 2) (wide p) (tall p - tall p / 2) c.with-rows-2.result p (omega arith, omega arith, omega arith, omega arith))
+    (cells_picked p.x0 p.y0 (wide p) (tall p / 2) c.with_rows.result p (omega arith, omega arith, omega arith, omega arith))
+    (cells_picked p.x0 (p.y0 + tall p / 2) (wide p) (tall p - tall p / 2) c.with_rows-2.result p (omega arith, omega arith, omega arith, omega arith))

@@ -11,4 +11,4 @@ returns-then-rows-eq0 c =
 pub returns : goal.returns
 returns c =
     let p = c.args.self.now in
-    sym (cells_made p.x0 c.args.y (wide p) c.args.rows c.with-rows.result (omega arith, omega arith, omega arith, omega arith))
+    sym (cells_made p.x0 c.args.y (wide p) c.args.rows c.with_rows.result (omega arith, omega arith, omega arith, omega arith))

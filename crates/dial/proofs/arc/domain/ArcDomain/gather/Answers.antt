@@ -4,10 +4,11 @@ use Rattle.dial.proofs.arc.domain.ArcDomain.gather.Goals as goal
 
 pub along-requires : goal.along-requires
 along-requires c =
-    gather_fits c.args.self.now c.args.members.now c.args.depth c.deep-run.result (omega arith)
-    (c.has-members.ensures.0 c.if-not-has-members.false) c.deep-run.ensures
+    gather_fits c.args.self.now c.args.members.now c.args.depth c.deep_run.result (omega arith)
+    (c.has_members.ensures.0 c.if-not-has_members.false) c.deep_run.ensures
 
 pub returns : goal.returns
 returns c =
-    gather_answer c.args.self.now c.args.members.now c.args.depth c.deep-run.result (omega arith)
-    (c.has-members.ensures.0 c.if-not-has-members.false) c.deep-run.ensures c.along.result c.along.ensures
+    let r = gather_answer c.args.self.now c.args.members.now c.args.depth c.deep_run.result (omega arith)
+    (c.has_members.ensures.0 c.if-not-has_members.false) c.deep_run.ensures c.along.result c.along.ensures in
+    record { value = r.0; smallest = r.1 }

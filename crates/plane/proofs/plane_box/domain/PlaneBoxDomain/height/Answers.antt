@@ -3,6 +3,6 @@ use Rattle.scan.specs.Powers.{log_up}
 use Rattle.plane.specs.Lawful.{height_most}
 use Rattle.plane.proofs.plane_box.domain.PlaneBoxDomain.height.Goals as goal
 
-pub overflow-add-result : goal.overflow-add-result
-overflow-add-result c =
-    omega (arith, height_most c.args.self.now, c.log-up-across.ensures, c.log-up-up.ensures, ap log_up c.wide.ensures, ap log_up c.tall.ensures)
+pub overflow_add-result : goal.overflow_add-result
+overflow_add-result c =
+    omega (arith, height_most c.args.self.now, c.log_up-across.ensures, c.log_up-up.ensures, ap log_up c.wide.ensures, ap log_up c.tall.ensures)

@@ -8,7 +8,7 @@ use Rattle.plane.proofs.plane_box.domain.PlaneBoxDomain.span.Goals as goal
 pub returns : goal.returns
 returns c =
     let x = c.args.self.now in
-    let f = c.holds-both.ensures.0 c.if-not-holds-both.false in
+    let f = c.holds_both.ensures.0 c.if-not-holds_both.false in
     let e = c.enclosing.ensures x in
     record {
       value = (f, e);
