@@ -17,7 +17,7 @@ impl<A: Contractor> Fixed<A> {
     // What it gives is the first that the next call leaves alike.
     pub fn new(inner: A) -> Fixed<A>
         ensures value { result.inner ≡ inner }
-        ensures settles { Settled Piece-as-Domain.maps (means A.Contractor.set A.Contractor.kept A.Contractor.dropped inner) }
+        ensures settles { Settled A.Piece.Domain.maps (means A.Contractor.set A.Contractor.kept A.Contractor.dropped inner) }
     {
         Fixed { inner }
     }

@@ -25,8 +25,8 @@ impl<P: Panel + Drop> Relaxed<P> {
     // Refused with 8 unless `liars` is below the number of members; the panel is spent either way.
     pub fn new(panel: P, liars: usize) -> Result<Relaxed<P>, Refusal>
         ensures parts { Given result 8 (liars < length (P.Panel.members panel)) (λ c. (c.panel ≡ panel) × (c.liars ≡ liars)) }
-        ensures means { IfOk result (λ c. relaxed_over Piece-as-Domain.maps c.liars (P.Panel.members c.panel) ≡ relaxed Piece-as-Domain.maps liars (P.Panel.members panel)) }
-        ensures extremes { Extremes Piece-as-Domain.maps (P.Panel.members panel) }
+        ensures means { IfOk result (λ c. relaxed_over P.Piece.Domain.maps c.liars (P.Panel.members c.panel) ≡ relaxed P.Piece.Domain.maps liars (P.Panel.members panel)) }
+        ensures extremes { Extremes P.Piece.Domain.maps (P.Panel.members panel) }
     {
         if liars >= panel.count() {
             return Err(Refusal::TooManyLiars);

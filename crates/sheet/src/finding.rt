@@ -26,7 +26,7 @@ fn place_by(class: Class) -> Place
 impl<C: Contractor> Sheet<C> {
     // Whether a waiting piece holds the point, from the top down.
     fn waits(&self, point: u32) -> bool
-        ensures { result ≡ held (task_of Piece-as-Domain.maps (means C.Contractor.set C.Contractor.kept C.Contractor.dropped) self.now) point (waiting self.now.store.pile) }
+        ensures { result ≡ held (task_of C.Piece.Domain.maps (means C.Contractor.set C.Contractor.kept C.Contractor.dropped) self.now) point (waiting self.now.store.pile) }
     {
         let mut left = self.store.pile.len;
         while left > 0 {
@@ -40,7 +40,7 @@ impl<C: Contractor> Sheet<C> {
 
     // Where the point is if it waits nowhere.
     fn place_on_roll(&self, point: u32) -> Place
-        ensures { result ≡ place_on (task_of Piece-as-Domain.maps (means C.Contractor.set C.Contractor.kept C.Contractor.dropped) self.now) point (rolled self.now.store.roll) }
+        ensures { result ≡ place_on (task_of C.Piece.Domain.maps (means C.Contractor.set C.Contractor.kept C.Contractor.dropped) self.now) point (rolled self.now.store.roll) }
     {
         for i in 0..self.store.roll.len {
             let record = self.store.roll.at(i);
@@ -53,7 +53,7 @@ impl<C: Contractor> Sheet<C> {
 
     // Refused with 14 where it is no point number of the start.
     pub fn find(&self, point: u32) -> Result<Place, Refusal>
-        ensures { Turned Piece-as-Domain.maps (means C.Contractor.set C.Contractor.kept C.Contractor.dropped) (Find point) self.now (found result) self.now }
+        ensures { Turned C.Piece.Domain.maps (means C.Contractor.set C.Contractor.kept C.Contractor.dropped) (Find point) self.now (found result) self.now }
     {
         if !self.start.holds(point) {
             return Err(Refusal::NotAPoint);

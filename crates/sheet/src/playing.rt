@@ -37,7 +37,7 @@ impl<C: Contractor> Sheet<C> {
 impl<C: Contractor + Drop> Sheet<C> {
     // Ends the sheet, and gives its tally.
     pub fn close(self) -> Tally
-        ensures { Turned Piece-as-Domain.maps (means C.Contractor.set C.Contractor.kept C.Contractor.dropped) TallyTurn self (Tallied result) self }
+        ensures { Turned C.Piece.Domain.maps (means C.Contractor.set C.Contractor.kept C.Contractor.dropped) TallyTurn self (Tallied result) self }
     {
         let tally = self.tally();
         let Sheet {

@@ -10,7 +10,7 @@ use paving::answers::Ran;
 impl<C: Contractor> Sheet<C> {
     // Steps until `most` are accepted, or one is refused. Never refused itself.
     pub fn run(&mut self, most: u32) -> Ran
-        ensures { Turned Piece-as-Domain.maps (means C.Contractor.set C.Contractor.kept C.Contractor.dropped) (Run most) self.old (RanFor result) self.new }
+        ensures { Turned C.Piece.Domain.maps (means C.Contractor.set C.Contractor.kept C.Contractor.dropped) (Run most) self.old (RanFor result) self.new }
     {
         let mut accepted = 0;
         while accepted < most {

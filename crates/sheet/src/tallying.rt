@@ -18,7 +18,7 @@ use paving::tallies::{Points, Tally};
 impl<C: Contractor> Sheet<C> {
     // The points of the waiting pieces, where they fit.
     fn points_waiting(&self) -> u64
-        ensures { total Piece-as-Domain.maps (waiting self.now.store.pile) < 2 ^ 64 → result ≡ total Piece-as-Domain.maps (waiting self.now.store.pile) }
+        ensures { total C.Piece.Domain.maps (waiting self.now.store.pile) < 2 ^ 64 → result ≡ total C.Piece.Domain.maps (waiting self.now.store.pile) }
     {
         let mut points: u64 = 0;
         let mut left = self.store.pile.len;
@@ -31,7 +31,7 @@ impl<C: Contractor> Sheet<C> {
 
     // The points of the records on the roll, where they fit.
     fn points_on_roll(&self) -> Points
-        ensures { all_points (task_of Piece-as-Domain.maps (means C.Contractor.set C.Contractor.kept C.Contractor.dropped) self.now) (rolled self.now.store.roll) < 2 ^ 64 → result ≡ points_of (task_of Piece-as-Domain.maps (means C.Contractor.set C.Contractor.kept C.Contractor.dropped) self.now) (rolled self.now.store.roll) }
+        ensures { all_points (task_of C.Piece.Domain.maps (means C.Contractor.set C.Contractor.kept C.Contractor.dropped) self.now) (rolled self.now.store.roll) < 2 ^ 64 → result ≡ points_of (task_of C.Piece.Domain.maps (means C.Contractor.set C.Contractor.kept C.Contractor.dropped) self.now) (rolled self.now.store.roll) }
     {
         let mut points = Points {
             inside: 0,
@@ -46,7 +46,7 @@ impl<C: Contractor> Sheet<C> {
     }
 
     pub fn tally(&self) -> Tally
-        ensures { Turned Piece-as-Domain.maps (means C.Contractor.set C.Contractor.kept C.Contractor.dropped) TallyTurn self.now (Tallied result) self.now }
+        ensures { Turned C.Piece.Domain.maps (means C.Contractor.set C.Contractor.kept C.Contractor.dropped) TallyTurn self.now (Tallied result) self.now }
     {
         Tally {
             waiting: self.points_waiting(),

@@ -15,7 +15,7 @@ pub(crate) fn layered<'a, R: Contractor + Copy>(
     liars: u16,
 ) -> Fixed<Relaxed<ReadingList<'a, R>>>
     requires { liars < length (readings_of list) }
-    ensures { relaxed_list Piece-as-Domain.maps (means R.Contractor.set R.Contractor.kept R.Contractor.dropped) result.inner ≡ relaxed Piece-as-Domain.maps liars (map (means R.Contractor.set R.Contractor.kept R.Contractor.dropped) (readings_of list.entry)) }
+    ensures { relaxed_list R.Piece.Domain.maps (means R.Contractor.set R.Contractor.kept R.Contractor.dropped) result.inner ≡ relaxed R.Piece.Domain.maps liars (map (means R.Contractor.set R.Contractor.kept R.Contractor.dropped) (readings_of list.entry)) }
 {
     let Ok(relaxed) = Relaxed::new(list, usize::from(liars)) else {
         unreachable()

@@ -13,5 +13,5 @@ pub fn same_readings<'a, 'b, R: Contractor + Copy>(
     one: &ReadingList<'a, R>,
     other: &ReadingList<'b, R>,
 )
-    ensures { IsPermutation (take one.now.entries.len one.now.entries.memory.now) (take other.now.entries.len other.now.entries.memory.now) → SameMaps Piece-as-Domain.maps (readers (means R.Contractor.set R.Contractor.kept R.Contractor.dropped) (take one.now.entries.len one.now.entries.memory.now)) (readers (means R.Contractor.set R.Contractor.kept R.Contractor.dropped) (take other.now.entries.len other.now.entries.memory.now)) }
+    ensures { IsPermutation (take one.now.entries.len one.now.entries.memory.now) (take other.now.entries.len other.now.entries.memory.now) → SameMaps R.Piece.Domain.maps (readers (means R.Contractor.set R.Contractor.kept R.Contractor.dropped) (take one.now.entries.len one.now.entries.memory.now)) (readers (means R.Contractor.set R.Contractor.kept R.Contractor.dropped) (take other.now.entries.len other.now.entries.memory.now)) }
 {}

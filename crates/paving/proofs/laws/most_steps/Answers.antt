@@ -4,17 +4,17 @@ use Rattle.domain.proofs.Totals.{count_most}
 use Rattle.paving.proofs.SheetLaws.{paving_laws}
 use Rattle.paving.proofs.laws.most_steps.Goals as goal
 
-pub overflow-mul-result : goal.overflow-mul-result
-overflow-mul-result g c =
-    record { fits = omega (arith, c.count.ensures, count_most g.Piece.Domain.maps g.met.Piece.Domain.lawful c.args.start.now) }
+pub overflow_mul-result : goal.overflow_mul-result
+overflow_mul-result g c =
+    record { fits = omega (arith, c.count.ensures, count_most g.C.Piece.Domain.maps g.met.C.Piece.Domain.lawful c.args.start.now) }
 
-pub overflow-sub-result : goal.overflow-sub-result
-overflow-sub-result g c = omega (arith, c.count.ensures, g.met.Piece.Domain.lawful.some c.args.start.now)
+pub overflow_sub-result : goal.overflow_sub-result
+overflow_sub-result g c = omega (arith, c.count.ensures, g.met.C.Piece.Domain.lawful.some c.args.start.now)
 
 pub returns : goal.returns
 returns g c =
     let k = c.args.contractor.now in
     record {
-      value = omega (arith, c.count.ensures, g.met.Piece.Domain.lawful.some c.args.start.now);
-      laws = paving_laws g.Piece.Domain.maps g.met.Piece.Domain.lawful (meaning (g.C.Contractor.set k) (g.C.Contractor.kept k) (g.C.Contractor.dropped k)) (g.met.C.Contractor.sound k) c.args.start.now;
+      value = omega (arith, c.count.ensures, g.met.C.Piece.Domain.lawful.some c.args.start.now);
+      laws = paving_laws g.C.Piece.Domain.maps g.met.C.Piece.Domain.lawful (meaning (g.C.Contractor.set k) (g.C.Contractor.kept k) (g.C.Contractor.dropped k)) (g.met.C.Contractor.sound k) c.args.start.now;
     }

@@ -16,23 +16,23 @@ loop-i-init g c = (
 
 pub loop-i-preserved : goal.loop-i-preserved
 loop-i-preserved g c =
-    let d = g.Piece.Domain.maps in
+    let d = g.A.Piece.Domain.maps in
     let us = c.args.turns.now in
     let i = c.loop-i.i in
-    let x = halfway_more d (means g.A.Contractor.set g.A.Contractor.kept g.A.Contractor.dropped) (task_of g.Piece.Domain.maps (means g.A.Contractor.set g.A.Contractor.kept g.A.Contractor.dropped) c.open-first.result) us i c.loop-i.first c.turn.new.self _ c.turn.result c.loop-i-test.true (get_or_default us i _ _ c.loop-i-test.true) c.loop-i.invariant.0 c.turn.ensures in
-    let y = halfway_more d (means g.B.Contractor.set g.B.Contractor.kept g.B.Contractor.dropped) (task_of g.Piece.Domain.maps (means g.B.Contractor.set g.B.Contractor.kept g.B.Contractor.dropped) c.open-second.result) us i c.loop-i.second c.turn-in-loop-i.new.self _ c.turn-in-loop-i.result c.loop-i-test.true (get_or_default us i _ _ c.loop-i-test.true) c.loop-i.invariant.1 c.turn-in-loop-i.ensures in (
+    let x = halfway_more d (means g.A.Contractor.set g.A.Contractor.kept g.A.Contractor.dropped) (task_of g.A.Piece.Domain.maps (means g.A.Contractor.set g.A.Contractor.kept g.A.Contractor.dropped) c.open-first.result) us i c.loop-i.first c.turn.new.self _ c.turn.result c.loop-i-test.true (get_or_default us i _ _ c.loop-i-test.true) c.loop-i.invariant.0 c.turn.ensures in
+    let y = halfway_more d (means g.B.Contractor.set g.B.Contractor.kept g.B.Contractor.dropped) (task_of g.A.Piece.Domain.maps (means g.B.Contractor.set g.B.Contractor.kept g.B.Contractor.dropped) c.open-second.result) us i c.loop-i.second c.turn-in-loop-i.new.self _ c.turn-in-loop-i.result c.loop-i-test.true (get_or_default us i _ _ c.loop-i-test.true) c.loop-i.invariant.1 c.turn-in-loop-i.ensures in (
       x.0,
       y.0,
       elim c.if-not-same-numbers.branch [
-        | then-not-same-numbers w ↦ subst (Alike (task_of g.Piece.Domain.maps (means g.A.Contractor.set g.A.Contractor.kept g.A.Contractor.dropped) c.open-first.result) (task_of g.Piece.Domain.maps (means g.B.Contractor.set g.B.Contractor.kept g.B.Contractor.dropped) c.open-second.result) d us (i + 1)) (sym w.alike-is) (unlike_more (task_of g.Piece.Domain.maps (means g.A.Contractor.set g.A.Contractor.kept g.A.Contractor.dropped) c.open-first.result) (task_of g.Piece.Domain.maps (means g.B.Contractor.set g.B.Contractor.kept g.B.Contractor.dropped) c.open-second.result) d us i c.loop-i.alike c.turn.result c.turn-in-loop-i.result x.1 y.1 (λ e. both_ways c.same-numbers.result w.if-not-same-numbers.true (c.same-numbers.ensures.1 (c.numbers-answer.ensures ∙ e ∙ sym c.numbers-again.ensures))))
-        | else-not-same-numbers w ↦ subst (Alike (task_of g.Piece.Domain.maps (means g.A.Contractor.set g.A.Contractor.kept g.A.Contractor.dropped) c.open-first.result) (task_of g.Piece.Domain.maps (means g.B.Contractor.set g.B.Contractor.kept g.B.Contractor.dropped) c.open-second.result) d us (i + 1)) (sym w.alike-is) (alike_more (task_of g.Piece.Domain.maps (means g.A.Contractor.set g.A.Contractor.kept g.A.Contractor.dropped) c.open-first.result) (task_of g.Piece.Domain.maps (means g.B.Contractor.set g.B.Contractor.kept g.B.Contractor.dropped) c.open-second.result) d us i c.loop-i.alike c.turn.result c.turn-in-loop-i.result x.1 y.1 (sym c.numbers-answer.ensures ∙ c.same-numbers.ensures.0 w.if-not-same-numbers.false ∙ c.numbers-again.ensures) c.loop-i.invariant.2)
+        | then-not-same-numbers w ↦ subst (Alike (task_of g.A.Piece.Domain.maps (means g.A.Contractor.set g.A.Contractor.kept g.A.Contractor.dropped) c.open-first.result) (task_of g.A.Piece.Domain.maps (means g.B.Contractor.set g.B.Contractor.kept g.B.Contractor.dropped) c.open-second.result) d us (i + 1)) (sym w.alike-is) (unlike_more (task_of g.A.Piece.Domain.maps (means g.A.Contractor.set g.A.Contractor.kept g.A.Contractor.dropped) c.open-first.result) (task_of g.A.Piece.Domain.maps (means g.B.Contractor.set g.B.Contractor.kept g.B.Contractor.dropped) c.open-second.result) d us i c.loop-i.alike c.turn.result c.turn-in-loop-i.result x.1 y.1 (λ e. both_ways c.same-numbers.result w.if-not-same-numbers.true (c.same-numbers.ensures.1 (c.numbers-answer.ensures ∙ e ∙ sym c.numbers-again.ensures))))
+        | else-not-same-numbers w ↦ subst (Alike (task_of g.A.Piece.Domain.maps (means g.A.Contractor.set g.A.Contractor.kept g.A.Contractor.dropped) c.open-first.result) (task_of g.A.Piece.Domain.maps (means g.B.Contractor.set g.B.Contractor.kept g.B.Contractor.dropped) c.open-second.result) d us (i + 1)) (sym w.alike-is) (alike_more (task_of g.A.Piece.Domain.maps (means g.A.Contractor.set g.A.Contractor.kept g.A.Contractor.dropped) c.open-first.result) (task_of g.A.Piece.Domain.maps (means g.B.Contractor.set g.B.Contractor.kept g.B.Contractor.dropped) c.open-second.result) d us i c.loop-i.alike c.turn.result c.turn-in-loop-i.result x.1 y.1 (sym c.numbers-answer.ensures ∙ c.same-numbers.ensures.0 w.if-not-same-numbers.false ∙ c.numbers-again.ensures) c.loop-i.invariant.2)
       ],
     )
 
 pub returns : goal.returns
 returns g c =
     record {
-      one = sheet_of g.Piece.Domain.maps (means g.A.Contractor.set g.A.Contractor.kept g.A.Contractor.dropped) c.args.one c.args.start c.args.grain c.args.turns.now c.loop-i.i c.open-first.result c.loop-i.first (opened_task g.Piece.Domain.maps (means g.A.Contractor.set g.A.Contractor.kept g.A.Contractor.dropped) c.args.one c.args.start c.args.grain c.open-first.result c.open-first.ensures.value) (omega (arith, c.loop-i-test.false)) c.loop-i.invariant.0;
-      other = sheet_of g.Piece.Domain.maps (means g.B.Contractor.set g.B.Contractor.kept g.B.Contractor.dropped) c.args.other c.args.start c.args.grain c.args.turns.now c.loop-i.i c.open-second.result c.loop-i.second (opened_task g.Piece.Domain.maps (means g.B.Contractor.set g.B.Contractor.kept g.B.Contractor.dropped) c.args.other c.args.start c.args.grain c.open-second.result c.open-second.ensures.value) (omega (arith, c.loop-i-test.false)) c.loop-i.invariant.1;
-      value = played_both g.Piece.Domain.maps g.met.Piece.Domain.lawful ((means g.A.Contractor.set g.A.Contractor.kept g.A.Contractor.dropped) c.args.one) ((means g.B.Contractor.set g.B.Contractor.kept g.B.Contractor.dropped) c.args.other) c.args.start c.args.grain.size c.args.turns.now c.loop-i.i (task_of g.Piece.Domain.maps (means g.A.Contractor.set g.A.Contractor.kept g.A.Contractor.dropped) c.open-first.result) (task_of g.Piece.Domain.maps (means g.B.Contractor.set g.B.Contractor.kept g.B.Contractor.dropped) c.open-second.result) c.loop-i.alike (opened_task g.Piece.Domain.maps (means g.A.Contractor.set g.A.Contractor.kept g.A.Contractor.dropped) c.args.one c.args.start c.args.grain c.open-first.result c.open-first.ensures.value) (opened_task g.Piece.Domain.maps (means g.B.Contractor.set g.B.Contractor.kept g.B.Contractor.dropped) c.args.other c.args.start c.args.grain c.open-second.result c.open-second.ensures.value) (omega (arith, c.loop-i-test.false)) c.loop-i.invariant.2;
+      one = sheet_of g.A.Piece.Domain.maps (means g.A.Contractor.set g.A.Contractor.kept g.A.Contractor.dropped) c.args.one c.args.start c.args.grain c.args.turns.now c.loop-i.i c.open-first.result c.loop-i.first (opened_task g.A.Piece.Domain.maps (means g.A.Contractor.set g.A.Contractor.kept g.A.Contractor.dropped) c.args.one c.args.start c.args.grain c.open-first.result c.open-first.ensures.value) (omega (arith, c.loop-i-test.false)) c.loop-i.invariant.0;
+      other = sheet_of g.A.Piece.Domain.maps (means g.B.Contractor.set g.B.Contractor.kept g.B.Contractor.dropped) c.args.other c.args.start c.args.grain c.args.turns.now c.loop-i.i c.open-second.result c.loop-i.second (opened_task g.A.Piece.Domain.maps (means g.B.Contractor.set g.B.Contractor.kept g.B.Contractor.dropped) c.args.other c.args.start c.args.grain c.open-second.result c.open-second.ensures.value) (omega (arith, c.loop-i-test.false)) c.loop-i.invariant.1;
+      value = played_both g.A.Piece.Domain.maps g.met.A.Piece.Domain.lawful ((means g.A.Contractor.set g.A.Contractor.kept g.A.Contractor.dropped) c.args.one) ((means g.B.Contractor.set g.B.Contractor.kept g.B.Contractor.dropped) c.args.other) c.args.start c.args.grain.size c.args.turns.now c.loop-i.i (task_of g.A.Piece.Domain.maps (means g.A.Contractor.set g.A.Contractor.kept g.A.Contractor.dropped) c.open-first.result) (task_of g.A.Piece.Domain.maps (means g.B.Contractor.set g.B.Contractor.kept g.B.Contractor.dropped) c.open-second.result) c.loop-i.alike (opened_task g.A.Piece.Domain.maps (means g.A.Contractor.set g.A.Contractor.kept g.A.Contractor.dropped) c.args.one c.args.start c.args.grain c.open-first.result c.open-first.ensures.value) (opened_task g.A.Piece.Domain.maps (means g.B.Contractor.set g.B.Contractor.kept g.B.Contractor.dropped) c.args.other c.args.start c.args.grain c.open-second.result c.open-second.ensures.value) (omega (arith, c.loop-i-test.false)) c.loop-i.invariant.2;
     }

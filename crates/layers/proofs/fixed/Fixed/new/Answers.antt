@@ -5,8 +5,8 @@ use Rattle.layers.proofs.fixed.Fixed.new.Goals as goal
 
 pub returns : goal.returns
 returns g c =
-    let d = g.Piece.Domain.maps in
-    let l = g.met.Piece.Domain.lawful in
+    let d = g.A.Piece.Domain.maps in
+    let l = g.met.A.Piece.Domain.lawful in
     let m = means g.A.Contractor.set g.A.Contractor.kept g.A.Contractor.dropped c.args.inner in
     let s = g.met.A.Contractor.sound c.args.inner in
     record {

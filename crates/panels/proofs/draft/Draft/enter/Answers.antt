@@ -15,5 +15,5 @@ returns g c =
             next = take_more_set memory len c.args.reading (omega arith);
             rest = drop-set-lt (len + 1) memory len c.args.reading (omega arith);
           };
-      same = refl {a = c.args.self.now.memory.name};
+      same = refl {a = c.args.self.now.memory.ghost_name};
     }

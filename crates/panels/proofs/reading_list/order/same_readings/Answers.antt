@@ -8,5 +8,5 @@ pub returns : goal.returns
 returns g c h =
     let one = c.args.one.now.entries in
     let other = c.args.other.now.entries in
-    readings_same g.Piece.Domain.maps g.met.Piece.Domain.lawful (means g.R.Contractor.set g.R.Contractor.kept g.R.Contractor.dropped) g.met.R.Contractor.sound
+    readings_same g.R.Piece.Domain.maps g.met.R.Piece.Domain.lawful (means g.R.Contractor.set g.R.Contractor.kept g.R.Contractor.dropped) g.met.R.Contractor.sound
     (take one.len one.memory.now) (take other.len other.memory.now) (omega (arith, length-take-le one.len one.memory.now one.fits, one.few)) h

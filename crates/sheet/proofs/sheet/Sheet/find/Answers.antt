@@ -8,8 +8,8 @@ use Rattle.sheet.proofs.sheet.Sheet.find.Goals as goal
 pub returns-then-not-holds : goal.returns-then-not-holds
 returns-then-not-holds g c =
     let s = c.args.self.now in
-    let d = g.Piece.Domain.maps in
-    let l = g.met.Piece.Domain.lawful in
+    let d = g.C.Piece.Domain.maps in
+    let l = g.met.C.Piece.Domain.lawful in
     let m = means g.C.Contractor.set g.C.Contractor.kept g.C.Contractor.dropped in
     let t = task_of d m s in
     turned d l m g.met.C.Contractor.sound (Find c.args.point) s _ s.store
@@ -18,8 +18,8 @@ returns-then-not-holds g c =
 pub returns-then-waits : goal.returns-then-waits
 returns-then-waits g c =
     let s = c.args.self.now in
-    let d = g.Piece.Domain.maps in
-    let l = g.met.Piece.Domain.lawful in
+    let d = g.C.Piece.Domain.maps in
+    let l = g.met.C.Piece.Domain.lawful in
     let m = means g.C.Contractor.set g.C.Contractor.kept g.C.Contractor.dropped in
     let t = task_of d m s in
     turned d l m g.met.C.Contractor.sound (Find c.args.point) s _ s.store
@@ -28,8 +28,8 @@ returns-then-waits g c =
 pub returns : goal.returns
 returns g c =
     let s = c.args.self.now in
-    let d = g.Piece.Domain.maps in
-    let l = g.met.Piece.Domain.lawful in
+    let d = g.C.Piece.Domain.maps in
+    let l = g.met.C.Piece.Domain.lawful in
     let m = means g.C.Contractor.set g.C.Contractor.kept g.C.Contractor.dropped in
     let t = task_of d m s in
     turned d l m g.met.C.Contractor.sound (Find c.args.point) s _ s.store

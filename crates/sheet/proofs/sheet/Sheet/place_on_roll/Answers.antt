@@ -12,7 +12,7 @@ loop-i-init g c = refl
 
 pub returns-then-holds : goal.returns-then-holds
 returns-then-holds g c =
-    let t = task_of g.Piece.Domain.maps (means g.C.Contractor.set g.C.Contractor.kept g.C.Contractor.dropped) c.args.self.now in
+    let t = task_of g.C.Piece.Domain.maps (means g.C.Contractor.set g.C.Contractor.kept g.C.Contractor.dropped) c.args.self.now in
     let rs = rolled c.args.self.now.store.roll in
     let i = c.loop-i.i in
     let q = c.at-record.result in
@@ -21,7 +21,7 @@ returns-then-holds g c =
 
 pub loop-i-preserved : goal.loop-i-preserved
 loop-i-preserved g c =
-    let t = task_of g.Piece.Domain.maps (means g.C.Contractor.set g.C.Contractor.kept g.C.Contractor.dropped) c.args.self.now in
+    let t = task_of g.C.Piece.Domain.maps (means g.C.Contractor.set g.C.Contractor.kept g.C.Contractor.dropped) c.args.self.now in
     let rs = rolled c.args.self.now.store.roll in
     let i = c.loop-i.i in
     let q = c.at-record.result in
@@ -30,6 +30,6 @@ loop-i-preserved g c =
 
 pub returns : goal.returns
 returns g c =
-    let t = task_of g.Piece.Domain.maps (means g.C.Contractor.set g.C.Contractor.kept g.C.Contractor.dropped) c.args.self.now in
+    let t = task_of g.C.Piece.Domain.maps (means g.C.Contractor.set g.C.Contractor.kept g.C.Contractor.dropped) c.args.self.now in
     let rs = rolled c.args.self.now.store.roll in
     sym (sym c.loop-i.invariant ∙ ap (place_on t c.args.point) (drop_all c.loop-i.i rs (omega (arith, c.loop-i-test.false, rolled_length c.args.self.now.store.roll))))

@@ -13,7 +13,7 @@ loop-i-init g c h = (omega arith, omega arith, omega arith)
 
 pub loop-i-preserved : goal.loop-i-preserved
 loop-i-preserved g c =
-    let t = task_of g.Piece.Domain.maps (means g.C.Contractor.set g.C.Contractor.kept g.C.Contractor.dropped) c.args.self.now in
+    let t = task_of g.C.Piece.Domain.maps (means g.C.Contractor.set g.C.Contractor.kept g.C.Contractor.dropped) c.args.self.now in
     let rs = rolled c.args.self.now.store.roll in
     let i = c.loop-i.i in
     let q = c.at-record.result in
@@ -23,6 +23,6 @@ loop-i-preserved g c =
 
 pub returns : goal.returns
 returns g c h =
-    let t = task_of g.Piece.Domain.maps (means g.C.Contractor.set g.C.Contractor.kept g.C.Contractor.dropped) c.args.self.now in
+    let t = task_of g.C.Piece.Domain.maps (means g.C.Contractor.set g.C.Contractor.kept g.C.Contractor.dropped) c.args.self.now in
     let rs = rolled c.args.self.now.store.roll in
     counted_all t c.loop-i.points rs (subst (λ ys. Counted t c.loop-i.points ys rs) (drop_all c.loop-i.i rs (omega (arith, c.loop-i-test.false, rolled_length c.args.self.now.store.roll))) c.loop-i.invariant) h

@@ -6,4 +6,4 @@ use Rattle.sheet.proofs.sheet.Sheet.points_on_roll.Given as goal
 
 -- those left are still to count
 abbrev pub invariant-loop-i : goal.invariant-loop-i
-invariant-loop-i g l = Counted (task_of g.Piece.Domain.maps (means g.C.Contractor.set g.C.Contractor.kept g.C.Contractor.dropped) l.self) l.points (drop l.i (rolled l.self.store.roll)) (rolled l.self.store.roll)
+invariant-loop-i g l = Counted (task_of g.C.Piece.Domain.maps (means g.C.Contractor.set g.C.Contractor.kept g.C.Contractor.dropped) l.self) l.points (drop l.i (rolled l.self.store.roll)) (rolled l.self.store.roll)

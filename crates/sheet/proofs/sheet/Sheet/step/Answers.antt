@@ -11,8 +11,8 @@ use Rattle.sheet.proofs.sheet.Sheet.step.Goals as goal
 pub returns-in-default : goal.returns-in-default
 returns-in-default g c =
     let s = c.args.self.now in
-    let d = g.Piece.Domain.maps in
-    let l = g.met.Piece.Domain.lawful in
+    let d = g.C.Piece.Domain.maps in
+    let l = g.met.C.Piece.Domain.lawful in
     let m = means g.C.Contractor.set g.C.Contractor.kept g.C.Contractor.dropped in
     let t = task_of d m s in
     turned d l m g.met.C.Contractor.sound Step s _ s.store
@@ -24,8 +24,8 @@ record-requires g c = (search rules, omega (arith, waiting_length c.args.self.no
 pub returns-in-default-keep : goal.returns-in-default-keep
 returns-in-default-keep g c =
     let s = c.args.self.now in
-    let d = g.Piece.Domain.maps in
-    let l = g.met.Piece.Domain.lawful in
+    let d = g.C.Piece.Domain.maps in
+    let l = g.met.C.Piece.Domain.lawful in
     let m = means g.C.Contractor.set g.C.Contractor.kept g.C.Contractor.dropped in
     let t = task_of d m s in
     turned d l m g.met.C.Contractor.sound Step s _ c.record.new.self
@@ -38,8 +38,8 @@ record-requires-2 g c = (search rules, omega (arith, waiting_length c.args.self.
 pub returns : goal.returns
 returns g c =
     let s = c.args.self.now in
-    let d = g.Piece.Domain.maps in
-    let l = g.met.Piece.Domain.lawful in
+    let d = g.C.Piece.Domain.maps in
+    let l = g.met.C.Piece.Domain.lawful in
     let m = means g.C.Contractor.set g.C.Contractor.kept g.C.Contractor.dropped in
     let t = task_of d m s in
     turned d l m g.met.C.Contractor.sound Step s _ c.record-2.new.self

@@ -10,8 +10,8 @@ use Rattle.sheet.proofs.sheet.Sheet.take.Goals as goal
 pub returns-in-default : goal.returns-in-default
 returns-in-default g c =
     let s = c.args.self.now in
-    let d = g.Piece.Domain.maps in
-    let l = g.met.Piece.Domain.lawful in
+    let d = g.C.Piece.Domain.maps in
+    let l = g.met.C.Piece.Domain.lawful in
     let m = means g.C.Contractor.set g.C.Contractor.kept g.C.Contractor.dropped in
     let t = task_of d m s in
     subst (λ r. Turned d m Take s (take_answer (Err RollEmpty)) (record { contractor = s.contractor; start = s.start; grain = s.grain; store = record { pile = s.store.pile; roll = r; taken = s.store.taken; steps = s.store.steps; next_label = s.store.next_label } })) (sym c.in-default.ensures.1)
@@ -21,8 +21,8 @@ returns-in-default g c =
 pub returns : goal.returns
 returns g c =
     let s = c.args.self.now in
-    let d = g.Piece.Domain.maps in
-    let l = g.met.Piece.Domain.lawful in
+    let d = g.C.Piece.Domain.maps in
+    let l = g.met.C.Piece.Domain.lawful in
     let m = means g.C.Contractor.set g.C.Contractor.kept g.C.Contractor.dropped in
     let t = task_of d m s in
     turned d l m g.met.C.Contractor.sound Take s _ _

@@ -8,8 +8,8 @@ use Rattle.sheet.proofs.sheet.Sheet.tally.Goals as goal
 pub returns : goal.returns
 returns g c =
     let s = c.args.self.now in
-    let d = g.Piece.Domain.maps in
-    let l = g.met.Piece.Domain.lawful in
+    let d = g.C.Piece.Domain.maps in
+    let l = g.met.C.Piece.Domain.lawful in
     let m = means g.C.Contractor.set g.C.Contractor.kept g.C.Contractor.dropped in
     let t = task_of d m s in
     turned d l m g.met.C.Contractor.sound Tally s _ s.store

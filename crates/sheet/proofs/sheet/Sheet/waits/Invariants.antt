@@ -8,7 +8,7 @@ use Rattle.sheet.proofs.sheet.Sheet.waits.Given as goal
 abbrev pub invariant-loop-left : goal.invariant-loop-left
 invariant-loop-left g l =
     (l.left ≤ l.self.store.pile.len)
-    × (held (task_of g.Piece.Domain.maps (means g.C.Contractor.set g.C.Contractor.kept g.C.Contractor.dropped) l.self) l.point (lowest l.left l.self.store.pile) ≡ held (task_of g.Piece.Domain.maps (means g.C.Contractor.set g.C.Contractor.kept g.C.Contractor.dropped) l.self) l.point (waiting l.self.store.pile))
+    × (held (task_of g.C.Piece.Domain.maps (means g.C.Contractor.set g.C.Contractor.kept g.C.Contractor.dropped) l.self) l.point (lowest l.left l.self.store.pile) ≡ held (task_of g.C.Piece.Domain.maps (means g.C.Contractor.set g.C.Contractor.kept g.C.Contractor.dropped) l.self) l.point (waiting l.self.store.pile))
 
 abbrev pub decreases-loop-left : goal.decreases-loop-left
 decreases-loop-left g l = l.left

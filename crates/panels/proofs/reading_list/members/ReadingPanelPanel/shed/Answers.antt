@@ -6,7 +6,7 @@ use Rattle.panels.proofs.reading_list.members.ReadingPanelPanel.shed.Goals as go
 pub unreachable-requires : goal.unreachable-requires
 unreachable-requires g c =
     reading_there (means g.R.Contractor.set g.R.Contractor.kept g.R.Contractor.dropped) (g.L.Entered.readings c.args.self.now.entries)
-    c.args.member (omega arith) (sym c.reading.ensures ∙ c.in-default.is)
+    c.args.member (omega arith) (sym c.reading.ensures ∙ c.in_default.is)
 
 pub returns : goal.returns
 returns g c = (
