@@ -3,7 +3,7 @@ ghost use Rattle.std.specs.Prelude.{◌≡◌};
 ghost use Rattle.contractor.specs.Layers.{opposite};
 ghost use Rattle.contractor.specs.Rearranged.{Alike};
 ghost use Rattle.panels.specs.Panels.{means};
-ghost use Rattle.std.proofs.Common.{rules};
+ghost use Rattle.contractor.proofs.Joining.{not_sound};
 
 use contractor::contractor::Contractor;
 
@@ -31,7 +31,7 @@ impl<A: Contractor> Contractor for Not<A> {
 
     ghost dropped = { λ c. (opposite (means A.Contractor.set A.Contractor.kept A.Contractor.dropped c.inner)).shed };
 
-    ghost sound = { Prim.search rules };
+    ghost sound = { λ c. not_sound A.Piece.Domain.maps _ (A.Contractor.sound c.inner) };
 
     fn keep(&self, piece: &A::Piece) -> Option<A::Piece> {
         self.inner.shed(piece)

@@ -27,4 +27,4 @@ pub returns : goal.returns
 returns g c =
     turned_nothing g.A.Piece.Domain.maps g.met.A.Piece.Domain.lawful (g.A.Contractor.dropped c.args.self.now.inner)
     (g.met.A.Contractor.sound c.args.self.now.inner).shed_fits c.args.piece.now c.loop-next.left c.loop-next.invariant
-    (sym c.shed.ensures ∙ c.in-default.is)
+    (sym c.shed.ensures ∙ c.in_default.is)

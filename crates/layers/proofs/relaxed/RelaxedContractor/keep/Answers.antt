@@ -10,27 +10,27 @@ returns-then-self-count g c =
     let ms = g.P.Panel.members c.args.self.now.panel in
     sym (ap (λ m. m.keep c.args.piece.now) (over_everything g.P.Piece.Domain.maps c.args.self.now.liars ms (omega arith)))
 
-pub slice-bounds-numbers-end : goal.slice-bounds-numbers-end
-slice-bounds-numbers-end g c =
+pub slice_bounds-numbers-end : goal.slice_bounds-numbers-end
+slice_bounds-numbers-end g c =
     filled_fits g.P.Piece.Domain.maps g.met.P.Piece.Domain.lawful c.args.piece.now (λ m. m.keep c.args.piece.now) (g.P.Panel.members c.args.self.now.panel)
-    c.kept-numbers-filled.result c.kept-numbers-filled.new.numbers c.kept-numbers-filled.ensures (g.met.P.Panel.few c.args.self.now.panel)
+    c.kept_numbers-filled.result c.kept_numbers-filled.new.numbers c.kept_numbers-filled.ensures (g.met.P.Panel.few c.args.self.now.panel)
 
-pub slice-bounds-gathered-end : goal.slice-bounds-gathered-end
-slice-bounds-gathered-end g c =
-    sym (length-take-le c.kept-numbers-filled.result c.kept-numbers-filled.new.numbers
+pub slice_bounds-gathered-end : goal.slice_bounds-gathered-end
+slice_bounds-gathered-end g c =
+    sym (length-take-le c.kept_numbers-filled.result c.kept_numbers-filled.new.numbers
     (filled_fits g.P.Piece.Domain.maps g.met.P.Piece.Domain.lawful c.args.piece.now (λ m. m.keep c.args.piece.now) (g.P.Panel.members c.args.self.now.panel)
-    c.kept-numbers-filled.result c.kept-numbers-filled.new.numbers c.kept-numbers-filled.ensures (g.met.P.Panel.few c.args.self.now.panel)))
+    c.kept_numbers-filled.result c.kept_numbers-filled.new.numbers c.kept_numbers-filled.ensures (g.met.P.Panel.few c.args.self.now.panel)))
 
-pub overflow-sub-count : goal.overflow-sub-count
-overflow-sub-count g c =
+pub overflow_sub-count : goal.overflow_sub-count
+overflow_sub-count g c =
     filled_few g.P.Piece.Domain.maps g.met.P.Piece.Domain.lawful c.args.piece.now (λ m. m.keep c.args.piece.now) (g.P.Panel.members c.args.self.now.panel)
-    c.kept-numbers-filled.result c.kept-numbers-filled.new.numbers c.kept-numbers-filled.ensures c.count-count.result c.count-count.ensures
+    c.kept_numbers-filled.result c.kept_numbers-filled.new.numbers c.kept_numbers-filled.ensures c.count-count.result c.count-count.ensures
 
 pub gathered-requires : goal.gathered-requires
 gathered-requires g c = (
   omega arith,
   filled_members g.P.Piece.Domain.maps g.met.P.Piece.Domain.lawful c.args.piece.now (λ m. m.keep c.args.piece.now) (g.P.Panel.members c.args.self.now.panel)
-      c.kept-numbers-filled.result c.kept-numbers-filled.new.numbers c.kept-numbers-filled.ensures (λ m s. s.keep_fits c.args.piece.now) (g.met.P.Panel.sound c.args.self.now.panel),
+      c.kept_numbers-filled.result c.kept_numbers-filled.new.numbers c.kept_numbers-filled.ensures (λ m s. s.keep_fits c.args.piece.now) (g.met.P.Panel.sound c.args.self.now.panel),
 )
 
 pub returns : goal.returns
@@ -39,7 +39,7 @@ returns g c =
     let ms = g.P.Panel.members c.args.self.now.panel in
     let q = c.args.self.now.liars in
     gathered_answers d g.met.P.Piece.Domain.lawful c.args.piece.now (λ m. m.keep c.args.piece.now) ms
-    c.kept-numbers-filled.result c.kept-numbers-filled.new.numbers c.kept-numbers-filled.ensures c.gathered.result c.count-count.result q (c.count-count.result - q)
+    c.kept_numbers-filled.result c.kept_numbers-filled.new.numbers c.kept_numbers-filled.ensures c.gathered.result c.count-count.result q (c.count-count.result - q)
     c.count-count.ensures c.gathered.ensures
     ∙ ap (λ (n : ℕ). gathered d c.args.piece.now (all_kept ms c.args.piece.now) q (n - q)) c.count-count.ensures
     ∙ sym (ap (λ m. m.keep c.args.piece.now) (over_relaxed d q ms (omega arith)))

@@ -4,4 +4,4 @@ use Rattle.leaves.specs.Sweeps.{swept_short}
 use Rattle.leaves.proofs.arc.ArcReadingContractor.shed.Goals as goal
 
 pub along-requires : goal.along-requires
-along-requires c = swept_short (λ n. not (holds c.args.self.now.arc n)) c.args.piece.now c.missed-run.result c.missed-run.ensures
+along-requires c = swept_short (λ n. not (holds c.args.self.now.arc n)) c.args.piece.now c.missed_run.result c.missed_run.ensures

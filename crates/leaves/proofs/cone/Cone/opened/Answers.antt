@@ -12,8 +12,23 @@ returns-then-not-opens c = (
   refl,
 )
 
-pub invariant-of-result : goal.invariant-of-result
-invariant-of-result c = (omega (arith, ints), (omega (arith, ints), (omega (arith, ints), (omega (arith, ints), (omega (arith, ints), (omega (arith, ints), (omega (arith, ints), (omega (arith, ints), (omega (arith, ints), (omega (arith, ints), (omega (arith, ints), (omega (arith, ints), (c.opens.ensures.0 c.if-not-opens.false, tt)))))))))))))
+pub invariant_of-result : goal.invariant_of-result
+invariant_of-result c =
+    record {
+      west = omega (arith, ints);
+      east = omega (arith, ints);
+      south = omega (arith, ints);
+      north = omega (arith, ints);
+      ux_least = omega (arith, ints);
+      ux_most = omega (arith, ints);
+      uy_least = omega (arith, ints);
+      uy_most = omega (arith, ints);
+      vx_least = omega (arith, ints);
+      vx_most = omega (arith, ints);
+      vy_least = omega (arith, ints);
+      vy_most = omega (arith, ints);
+      opens = c.opens.ensures.0 c.if-not-opens.false;
+    }
 
 pub returns : goal.returns
 returns c = (

@@ -3,8 +3,8 @@ use Rattle.std.proofs.lemmas.Int.{to_z-of_z}
 use Rattle.leaves.specs.Products.{difference_is, above_decides}
 use Rattle.leaves.proofs.cone.made.opens.Goals as goal
 
-pub overflow-sub-result : goal.overflow-sub-result
-overflow-sub-result c = (difference_is c.product.result c.product-2.result c.product.ensures.1 c.product-2.ensures.1).0
+pub overflow_sub-result : goal.overflow_sub-result
+overflow_sub-result c = (difference_is c.product.result c.product-2.result c.product.ensures.1 c.product-2.ensures.1).0
 
 pub returns : goal.returns
 returns c =

@@ -9,9 +9,9 @@ returns c =
     let t = c.lowest.result in
     let rule = sheds k.ux k.uy k.vy k.vx k.bx k.by c.args.by in
     let value =
-    run_same _ rule c.args.piece c.live-run.result c.requires.0
+    run_same _ rule c.args.piece c.live_run.result c.requires.0
     (λ i h. sheds_same t k.ux k.uy k.vy k.vx k.bx k.by c.args.by c.requires.1.0 i h
     (record { own = c.lowest.ensures.along; taken_is = c.lowest.ensures.taken; given_is = c.lowest.ensures.given })
     c.lowest.ensures.first c.lowest.ensures.second)
-    c.live-run.ensures in
-    record { value = value; short = run_short rule c.args.piece c.live-run.result c.requires.0 value }
+    c.live_run.ensures in
+    record { value = value; short = run_short rule c.args.piece c.live_run.result c.requires.0 value }

@@ -16,5 +16,5 @@ returns c =
       outer_is = c.new.ensures.outer;
     } in
     let rule = sheds r.inner r.outer c.args.along c.args.across c.args.by in
-    let value = run_same _ rule c.args.piece c.live-run.result c.requires.0 (λ i h. sheds_same c.new.result r.inner r.outer c.args.along c.args.across c.args.by u i h) c.live-run.ensures in
-    record { value = value; short = run_short rule c.args.piece c.live-run.result c.requires.0 value }
+    let value = run_same _ rule c.args.piece c.live_run.result c.requires.0 (λ i h. sheds_same c.new.result r.inner r.outer c.args.along c.args.across c.args.by u i h) c.live_run.ensures in
+    record { value = value; short = run_short rule c.args.piece c.live_run.result c.requires.0 value }

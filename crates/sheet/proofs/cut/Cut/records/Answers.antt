@@ -4,4 +4,4 @@ use Rattle.sheet.proofs.cut.Cut.records.Goals as goal
 
 pub returns : goal.returns
 returns g c =
-    (omega (arith, cut_length c.args.self.now, c.many-strips.ensures.0, c.many-strips-2.ensures.0, c.many.ensures), omega (arith, c.many-strips.ensures.1, c.many-strips-2.ensures.1, c.many.ensures, option_to_list_length c.args.self.now.undecided))
+    (omega (arith, cut_length c.args.self.now, c.many_strips.ensures.0, c.many_strips-2.ensures.0, c.many.ensures), omega (arith, c.many_strips.ensures.1, c.many_strips-2.ensures.1, c.many.ensures, option_to_list_length c.args.self.now.undecided))

@@ -6,14 +6,14 @@ use Rattle.sheet.proofs.Piling.{waiting_length}
 use Rattle.sheet.proofs.Storing.{option_to_list_length}
 use Rattle.sheet.proofs.pile.Pile.exchange.Goals as goal
 
-pub push-some-requires : goal.push-some-requires
-push-some-requires g c =
+pub push_some-requires : goal.push_some-requires
+push_some-requires g c =
     (search rules, omega (arith, c.requires.1, ap length c.pop.ensures.1, waiting_length c.args.self.now, waiting_length c.pop.new.self))
 
-pub push-some-requires-2 : goal.push-some-requires-2
-push-some-requires-2 g c =
-    (search rules, omega (arith, c.requires.1, ap length c.pop.ensures.1, waiting_length c.args.self.now, waiting_length c.pop.new.self, waiting_length c.push-some.new.self, ap length c.push-some.ensures, length-append (option_to_list c.args.later) (waiting c.pop.new.self), option_to_list_length c.args.later))
+pub push_some-requires-2 : goal.push_some-requires-2
+push_some-requires-2 g c =
+    (search rules, omega (arith, c.requires.1, ap length c.pop.ensures.1, waiting_length c.args.self.now, waiting_length c.pop.new.self, waiting_length c.push_some.new.self, ap length c.push_some.ensures, length-append (option_to_list c.args.later) (waiting c.pop.new.self), option_to_list_length c.args.later))
 
 pub returns : goal.returns
 returns g c =
-    (c.pop.ensures.0, waiting c.pop.new.self, c.pop.ensures.1, c.push-some-2.ensures ∙ ap (λ ps. option_to_list c.args.next ++ ps) c.push-some.ensures ∙ sym (append_assoc (option_to_list c.args.next) (option_to_list c.args.later) (waiting c.pop.new.self)))
+    (c.pop.ensures.0, waiting c.pop.new.self, c.pop.ensures.1, c.push_some-2.ensures ∙ ap (λ ps. option_to_list c.args.next ++ ps) c.push_some.ensures ∙ sym (append_assoc (option_to_list c.args.next) (option_to_list c.args.later) (waiting c.pop.new.self)))

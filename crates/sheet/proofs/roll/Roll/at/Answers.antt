@@ -10,5 +10,5 @@ returns g c d =
     let s = c.args.self.now in
     get_or-take s.len (from s.first s.items) c.args.many d c.requires
     ∙ from_at s.items s.first s.places s.begins c.args.many d (omega arith)
-    ∙ ap (λ (k : ℕ). get_or s.items k d) (sym c.place-after.ensures.0)
-    ∙ get_or_default s.items c.place-after.result d c.index-self-place-after.result (omega (arith, c.place-after.ensures.1))
+    ∙ ap (λ (k : ℕ). get_or s.items k d) (sym c.place_after.ensures.0)
+    ∙ get_or_default s.items c.place_after.result d c.index-self-place_after.result (omega (arith, c.place_after.ensures.1))

@@ -12,4 +12,4 @@ unfolding rolled
 returns g c =
     let s = c.args.self.now in
     from_take s.items s.first s.places s.begins s.len c.index-self-self.result (omega arith) s.most
-    ∙ ap (λ (k : ℕ). get_or s.items s.first c.index-self-self.result ∷ take (s.len - 1) (from k s.items)) (sym c.place-after-self.ensures.0)
+    ∙ ap (λ (k : ℕ). get_or s.items s.first c.index-self-self.result ∷ take (s.len - 1) (from k s.items)) (sym c.place_after-self.ensures.0)

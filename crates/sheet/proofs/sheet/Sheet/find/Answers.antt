@@ -33,4 +33,4 @@ returns g c =
     let m = means g.C.Contractor.set g.C.Contractor.kept g.C.Contractor.dropped in
     let t = task_of d m s in
     turned d l m g.met.C.Contractor.sound (Find c.args.point) s _ s.store
-    (λ x k h. (find_on_roll t c.args.point s.store x h c.place-on-roll.result (sym c.holds.ensures ∙ c.if-not-holds.false) (sym c.waits.ensures ∙ c.if-waits.false) c.place-on-roll.ensures, h))
+    (λ x k h. (find_on_roll t c.args.point s.store x h c.place_on_roll.result (sym c.holds.ensures ∙ c.if-not-holds.false) (sym c.waits.ensures ∙ c.if-waits.false) c.place_on_roll.ensures, h))

@@ -17,7 +17,7 @@ returns-then-holds g c =
     let i = c.loop-i.i in
     let q = c.at-record.result in
     let e = drop_here rs i q (omega (arith, c.loop-i-test.true, rolled_length c.args.self.now.store.roll)) c.at-record.ensures in
-    c.place-by.ensures ∙ sym (sym c.loop-i.invariant ∙ ap (place_on t c.args.point) e ∙ place_here t c.args.point q (drop (i + 1) rs) (sym c.if-holds.ensures))
+    c.place_by.ensures ∙ sym (sym c.loop-i.invariant ∙ ap (place_on t c.args.point) e ∙ place_here t c.args.point q (drop (i + 1) rs) (sym c.if-holds.ensures))
 
 pub loop-i-preserved : goal.loop-i-preserved
 loop-i-preserved g c =

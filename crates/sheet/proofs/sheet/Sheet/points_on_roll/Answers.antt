@@ -18,7 +18,7 @@ loop-i-preserved g c =
     let i = c.loop-i.i in
     let q = c.at-record.result in
     let e = drop_here rs i q (omega (arith, c.loop-i-test.true, rolled_length c.args.self.now.store.roll)) c.at-record.ensures in
-    subst (λ y. Counted t y (drop (i + 1) rs) rs) (sym (c.add-points.ensures ∙ ap (plus c.loop-i.points q.class) c.count.ensures))
+    subst (λ y. Counted t y (drop (i + 1) rs) rs) (sym (c.add_points.ensures ∙ ap (plus c.loop-i.points q.class) c.count.ensures))
     (counted_more t c.loop-i.points q (drop (i + 1) rs) rs (subst (λ ys. Counted t c.loop-i.points ys rs) e c.loop-i.invariant))
 
 pub returns : goal.returns

@@ -14,7 +14,7 @@ loop-left-preserved g c =
     let p = c.args.self.now.store.pile in
     let e = lowest_at p c.loop-left.left c.at.result c.loop-left-test.true c.at.ensures in
     let f = ap (total g.C.Piece.Domain.maps) e ∙ sum_by-cons g.C.Piece.Domain.maps.count c.at.result (lowest (c.loop-left.left - 1) p) in
-    (omega (arith, c.loop-left.invariant.0), λ h. omega (arith, c.loop-left.invariant.1 h, f, c.count.ensures, c.saturating-add-points.ensures, h))
+    (omega (arith, c.loop-left.invariant.0), λ h. omega (arith, c.loop-left.invariant.1 h, f, c.count.ensures, c.saturating_add-points.ensures, h))
 
 pub returns : goal.returns
 returns g c h =

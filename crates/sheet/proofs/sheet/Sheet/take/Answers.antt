@@ -7,16 +7,16 @@ use Rattle.sheet.proofs.Counting.{take_none, take_shows}
 use Rattle.sheet.proofs.Turning.{turned, with_store}
 use Rattle.sheet.proofs.sheet.Sheet.take.Goals as goal
 
-pub returns-in-default : goal.returns-in-default
-returns-in-default g c =
+pub returns-in_default : goal.returns-in_default
+returns-in_default g c =
     let s = c.args.self.now in
     let d = g.C.Piece.Domain.maps in
     let l = g.met.C.Piece.Domain.lawful in
     let m = means g.C.Contractor.set g.C.Contractor.kept g.C.Contractor.dropped in
     let t = task_of d m s in
-    subst (λ r. Turned d m Take s (take_answer (Err RollEmpty)) (record { contractor = s.contractor; start = s.start; grain = s.grain; store = record { pile = s.store.pile; roll = r; taken = s.store.taken; steps = s.store.steps; next_label = s.store.next_label } })) (sym c.in-default.ensures.1)
+    subst (λ r. Turned d m Take s (take_answer (Err RollEmpty)) (record { contractor = s.contractor; start = s.start; grain = s.grain; store = record { pile = s.store.pile; roll = r; taken = s.store.taken; steps = s.store.steps; next_label = s.store.next_label } })) (sym c.in_default.ensures.1)
     (turned d l m g.met.C.Contractor.sound Take s _ s.store
-    (λ x k h. take_none t l (g.C.Contractor.set s.contractor) (g.met.C.Contractor.sound s.contractor) s.store x k h c.in-default.ensures.0))
+    (λ x k h. take_none t l (g.C.Contractor.set s.contractor) (g.met.C.Contractor.sound s.contractor) s.store x k h c.in_default.ensures.0))
 
 pub returns : goal.returns
 returns g c =
@@ -26,4 +26,4 @@ returns g c =
     let m = means g.C.Contractor.set g.C.Contractor.kept g.C.Contractor.dropped in
     let t = task_of d m s in
     turned d l m g.met.C.Contractor.sound Take s _ _
-    (λ x k h. take_shows t l (g.C.Contractor.set s.contractor) (g.met.C.Contractor.sound s.contractor) s.store x k h c.in-Some.record c.take.new.self c.add-points.new.points c.in-Some.ensures (c.add-points.ensures ∙ ap (plus s.store.taken c.in-Some.record.class) c.count.ensures))
+    (λ x k h. take_shows t l (g.C.Contractor.set s.contractor) (g.met.C.Contractor.sound s.contractor) s.store x k h c.in-Some.record c.take.new.self c.add_points.new.points c.in-Some.ensures (c.add_points.ensures ∙ ap (plus s.store.taken c.in-Some.record.class) c.count.ensures))

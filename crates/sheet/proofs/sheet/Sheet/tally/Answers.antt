@@ -13,4 +13,4 @@ returns g c =
     let m = means g.C.Contractor.set g.C.Contractor.kept g.C.Contractor.dropped in
     let t = task_of d m s in
     turned d l m g.met.C.Contractor.sound Tally s _ s.store
-    (λ x k h. (tally_shows t l (g.C.Contractor.set s.contractor) (g.met.C.Contractor.sound s.contractor) s.store x k h c.points-waiting.result c.points-on-roll.result c.points-waiting.ensures c.points-on-roll.ensures, h))
+    (λ x k h. (tally_shows t l (g.C.Contractor.set s.contractor) (g.met.C.Contractor.sound s.contractor) s.store x k h c.points_waiting.result c.points_on_roll.result c.points_waiting.ensures c.points_on_roll.ensures, h))
