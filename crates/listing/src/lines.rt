@@ -1,5 +1,5 @@
 // The lines of a listing, written to a text.
-ghost use Rattle.std.specs.Prelude.{◌≡◌, ℕ, List, ◌++◌, is_ok, string_bytes, OnOk};
+ghost use Rattle.std.specs.Prelude.{◌≡◌, ℕ, List, ◌++◌, string_bytes, OnOk};
 ghost use Rattle.listing.specs.Lines.{Shown, class_name, record_line, sum_line};
 
 use paving::classes::Class;
@@ -18,16 +18,6 @@ fn class_name(class: Class) -> &'static str
     }
 }
 
-// A text takes all that is written to it, unless no memory is left.
-fn written(res: fmt::Result) -> Result<(), AllocError>
-    ensures { is_ok result ≡ is_ok res }
-{
-    match res {
-        Ok(()) => Ok(()),
-        Err(_) => Err(AllocError),
-    }
-}
-
 // `CLASS=LABEL,PIECE`
 pub(crate) fn write_record<P: fmt::Display>(
     text: &mut String,
@@ -38,7 +28,7 @@ pub(crate) fn write_record<P: fmt::Display>(
     let class = class_name(record.class);
     let label = record.label;
     let piece = &record.piece;
-    written(write!(text, "{class}={label},{piece}\n"))
+    write!(text, "{class}={label},{piece}\n")
 }
 
 // `sum=INSIDE,OUTSIDE,UNDECIDED,STEPS`
@@ -48,5 +38,5 @@ pub(crate) fn write_sum(text: &mut String, points: Points, steps: u32) -> Result
     let inside = points.inside;
     let outside = points.outside;
     let undecided = points.undecided;
-    written(write!(text, "sum={inside},{outside},{undecided},{steps}\n"))
+    write!(text, "sum={inside},{outside},{undecided},{steps}\n")
 }

@@ -12,12 +12,12 @@ loop-record-smaller g c =
 pub loop-record-preserved : goal.loop-record-preserved
 loop-record-preserved g c =
     let m = means g.C.Contractor.set g.C.Contractor.kept g.C.Contractor.dropped in
-    emptying_more g.P.Domain.maps g.met.P.Domain.lawful m g.met.C.Contractor.sound g.P.Display.output c.args.sheet.now c.loop-record.sheet c.take.new.self (string_bytes c.loop-record.text) c.loop-record.invariant c.in-Ok.record (string_bytes c.write-record.new.text) c.in-Ok.ensures c.in-ok-write-record.ensures
+    emptying_more g.P.Domain.maps g.met.P.Domain.lawful m g.met.C.Contractor.sound g.P.Display.output c.args.sheet.now c.loop-record.sheet c.take.new.self (string_bytes c.loop-record.text) c.loop-record.invariant c.in-Ok.record (string_bytes c.write_record.new.text) c.in-Ok.ensures c.in_ok-write_record.ensures
 
-pub returns-in-err-write-record : goal.returns-in-err-write-record
-returns-in-err-write-record g c = IfOk-from_err c.from-residual.result _ c.from-residual.ensures.0
+pub returns-in_err-write_record : goal.returns-in_err-write_record
+returns-in_err-write_record g c = IfOk-from_err c.from_residual.result _ c.from_residual.ensures.0
 
 pub returns : goal.returns
 returns g c =
     let m = means g.C.Contractor.set g.C.Contractor.kept g.C.Contractor.dropped in
-    emptied g.P.Domain.maps g.met.P.Domain.lawful m g.met.C.Contractor.sound g.P.Display.output c.args.sheet.now c.loop-record.sheet c.take.new.self (string_bytes c.loop-record.text) c.loop-record.invariant c.in-default.field-0 c.in-default.ensures
+    emptied g.P.Domain.maps g.met.P.Domain.lawful m g.met.C.Contractor.sound g.P.Display.output c.args.sheet.now c.loop-record.sheet c.take.new.self (string_bytes c.loop-record.text) c.loop-record.invariant c.in_default.field-0 c.in_default.ensures

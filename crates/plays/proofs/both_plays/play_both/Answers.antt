@@ -5,7 +5,7 @@ use Rattle.sheet.specs.Standing.{means, task_of}
 use Rattle.sheet.proofs.Opening.{opened_task}
 use Rattle.plays.proofs.Gaming.{Alike, halfway_more, alike_more, unlike_more, played_both, sheet_of}
 use Rattle.plays.proofs.both_plays.play_both.Goals as goal
-use Rattle.plays.proofs.both_plays.play_both.Goals.{then-not-same-numbers, else-not-same-numbers}
+use Rattle.plays.proofs.both_plays.play_both.Goals.{then-not-same_numbers, else-not-same_numbers}
 
 pub loop-i-init : goal.loop-i-init
 loop-i-init g c = (
@@ -23,9 +23,9 @@ loop-i-preserved g c =
     let y = halfway_more d (means g.B.Contractor.set g.B.Contractor.kept g.B.Contractor.dropped) (task_of g.A.Piece.Domain.maps (means g.B.Contractor.set g.B.Contractor.kept g.B.Contractor.dropped) c.open-second.result) us i c.loop-i.second c.turn-in-loop-i.new.self _ c.turn-in-loop-i.result c.loop-i-test.true (get_or_default us i _ _ c.loop-i-test.true) c.loop-i.invariant.1 c.turn-in-loop-i.ensures in (
       x.0,
       y.0,
-      elim c.if-not-same-numbers.branch [
-        | then-not-same-numbers w ↦ subst (Alike (task_of g.A.Piece.Domain.maps (means g.A.Contractor.set g.A.Contractor.kept g.A.Contractor.dropped) c.open-first.result) (task_of g.A.Piece.Domain.maps (means g.B.Contractor.set g.B.Contractor.kept g.B.Contractor.dropped) c.open-second.result) d us (i + 1)) (sym w.alike-is) (unlike_more (task_of g.A.Piece.Domain.maps (means g.A.Contractor.set g.A.Contractor.kept g.A.Contractor.dropped) c.open-first.result) (task_of g.A.Piece.Domain.maps (means g.B.Contractor.set g.B.Contractor.kept g.B.Contractor.dropped) c.open-second.result) d us i c.loop-i.alike c.turn.result c.turn-in-loop-i.result x.1 y.1 (λ e. both_ways c.same-numbers.result w.if-not-same-numbers.true (c.same-numbers.ensures.1 (c.numbers-answer.ensures ∙ e ∙ sym c.numbers-again.ensures))))
-        | else-not-same-numbers w ↦ subst (Alike (task_of g.A.Piece.Domain.maps (means g.A.Contractor.set g.A.Contractor.kept g.A.Contractor.dropped) c.open-first.result) (task_of g.A.Piece.Domain.maps (means g.B.Contractor.set g.B.Contractor.kept g.B.Contractor.dropped) c.open-second.result) d us (i + 1)) (sym w.alike-is) (alike_more (task_of g.A.Piece.Domain.maps (means g.A.Contractor.set g.A.Contractor.kept g.A.Contractor.dropped) c.open-first.result) (task_of g.A.Piece.Domain.maps (means g.B.Contractor.set g.B.Contractor.kept g.B.Contractor.dropped) c.open-second.result) d us i c.loop-i.alike c.turn.result c.turn-in-loop-i.result x.1 y.1 (sym c.numbers-answer.ensures ∙ c.same-numbers.ensures.0 w.if-not-same-numbers.false ∙ c.numbers-again.ensures) c.loop-i.invariant.2)
+      elim c.if-not-same_numbers.branch [
+        | then-not-same_numbers w ↦ subst (Alike (task_of g.A.Piece.Domain.maps (means g.A.Contractor.set g.A.Contractor.kept g.A.Contractor.dropped) c.open-first.result) (task_of g.A.Piece.Domain.maps (means g.B.Contractor.set g.B.Contractor.kept g.B.Contractor.dropped) c.open-second.result) d us (i + 1)) (sym w.alike-is) (unlike_more (task_of g.A.Piece.Domain.maps (means g.A.Contractor.set g.A.Contractor.kept g.A.Contractor.dropped) c.open-first.result) (task_of g.A.Piece.Domain.maps (means g.B.Contractor.set g.B.Contractor.kept g.B.Contractor.dropped) c.open-second.result) d us i c.loop-i.alike c.turn.result c.turn-in-loop-i.result x.1 y.1 (λ e. both_ways c.same_numbers.result w.if-not-same_numbers.true (c.same_numbers.ensures.1 (c.numbers-answer.ensures ∙ e ∙ sym c.numbers-again.ensures))))
+        | else-not-same_numbers w ↦ subst (Alike (task_of g.A.Piece.Domain.maps (means g.A.Contractor.set g.A.Contractor.kept g.A.Contractor.dropped) c.open-first.result) (task_of g.A.Piece.Domain.maps (means g.B.Contractor.set g.B.Contractor.kept g.B.Contractor.dropped) c.open-second.result) d us (i + 1)) (sym w.alike-is) (alike_more (task_of g.A.Piece.Domain.maps (means g.A.Contractor.set g.A.Contractor.kept g.A.Contractor.dropped) c.open-first.result) (task_of g.A.Piece.Domain.maps (means g.B.Contractor.set g.B.Contractor.kept g.B.Contractor.dropped) c.open-second.result) d us i c.loop-i.alike c.turn.result c.turn-in-loop-i.result x.1 y.1 (sym c.numbers-answer.ensures ∙ c.same_numbers.ensures.0 w.if-not-same_numbers.false ∙ c.numbers-again.ensures) c.loop-i.invariant.2)
       ],
     )
 
