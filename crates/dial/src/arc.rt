@@ -1,7 +1,7 @@
 // An arc of the dial: its points are, in order, start, start + 1, … round the ring, `len` of them.
 ghost use Rattle.std.specs.Prelude.{◌<◌, ◌≤◌};
 
-pub mod domain;
+pub mod piece;
 pub mod made;
 mod order;
 mod runs;

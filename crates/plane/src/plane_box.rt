@@ -2,7 +2,7 @@
 ghost use Rattle.std.specs.Prelude.{◌≤◌};
 
 pub mod cuts;
-pub mod domain;
+pub mod piece;
 pub mod gathers;
 pub mod made;
 pub mod shown;

@@ -1,6 +1,6 @@
 use Rattle.std.proofs.Common.{◌/◌, ◌%◌, ◌^◌, refl, arith}
 use Rattle.plane.specs.Made.{box_none}
-use Rattle.plane.proofs.plane_box.domain.PlaneBoxDomain.from_number.Goals as goal
+use Rattle.plane.proofs.plane_box.piece.PlaneBoxDomain.from_number.Goals as goal
 
 pub returns-then-number-gt0 : goal.returns-then-number-gt0
 returns-then-number-gt0 c =

@@ -3,7 +3,7 @@ use Rattle.domain.specs.Maps.{Smallest}
 use Rattle.plane.specs.Boxes.{plane}
 use Rattle.plane.specs.Promises.{HeldByEither}
 use Rattle.plane.proofs.Promised.{smallest}
-use Rattle.plane.proofs.plane_box.domain.PlaneBoxDomain.span.Goals as goal
+use Rattle.plane.proofs.plane_box.piece.PlaneBoxDomain.span.Goals as goal
 
 pub returns : goal.returns
 returns c =

@@ -1,6 +1,6 @@
 use Rattle.std.proofs.Common.{arith}
 use Rattle.dial.proofs.Smallest.{gather_fits, gather_answer}
-use Rattle.dial.proofs.arc.domain.ArcDomain.gather.Goals as goal
+use Rattle.dial.proofs.arc.piece.ArcDomain.gather.Goals as goal
 
 pub along-requires : goal.along-requires
 along-requires c =

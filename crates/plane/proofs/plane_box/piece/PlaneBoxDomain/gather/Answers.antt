@@ -1,5 +1,5 @@
 use Rattle.plane.proofs.Numbered.{both_short, gathered_from, crossing_from}
-use Rattle.plane.proofs.plane_box.domain.PlaneBoxDomain.gather.Goals as goal
+use Rattle.plane.proofs.plane_box.piece.PlaneBoxDomain.gather.Goals as goal
 
 pub crossing-requires : goal.crossing-requires
 crossing-requires c =

@@ -1,7 +1,7 @@
 use Rattle.std.proofs.Common.{◌≡◌, Some, None, sym, ap, ◌∙◌, ap₂}
 use Rattle.dial.specs.Arcs.{span}
 use Rattle.dial.proofs.Smallest.{span_answer}
-use Rattle.dial.proofs.arc.domain.ArcDomain.span.Goals as goal
+use Rattle.dial.proofs.arc.piece.ArcDomain.span.Goals as goal
 
 pub returns-in_default : goal.returns-in_default
 returns-in_default c =

@@ -2,7 +2,7 @@ use Rattle.std.proofs.Common.{◌/◌, leb, sym, ◌∙◌, arith}
 use Rattle.std.proofs.lemmas.Bool.{cond-true, cond-false}
 use Rattle.plane.specs.Boxes.{wide, tall, cut_columns, cut_rows}
 use Rattle.plane.specs.Lawful.{several}
-use Rattle.plane.proofs.plane_box.domain.PlaneBoxDomain.halves.Goals as goal
+use Rattle.plane.proofs.plane_box.piece.PlaneBoxDomain.halves.Goals as goal
 
 pub returns-then-is_cut_by_columns : goal.returns-then-is_cut_by_columns
 returns-then-is_cut_by_columns c =

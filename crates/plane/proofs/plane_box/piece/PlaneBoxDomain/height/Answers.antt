@@ -1,7 +1,7 @@
 use Rattle.std.proofs.Common.{ap, arith}
 use Rattle.scan.specs.Powers.{log_up}
 use Rattle.plane.specs.Lawful.{height_most}
-use Rattle.plane.proofs.plane_box.domain.PlaneBoxDomain.height.Goals as goal
+use Rattle.plane.proofs.plane_box.piece.PlaneBoxDomain.height.Goals as goal
 
 pub overflow_add-result : goal.overflow_add-result
 overflow_add-result c =
