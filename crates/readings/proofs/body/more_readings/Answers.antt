@@ -11,30 +11,30 @@ loop-next-init g c = midway_begun g.R.Entry.readings c.args.rest.now _ c.of-read
 
 pub add-requires : goal.add-requires
 add-requires g c =
-    (search rules, next_few g.R.Entry.readings c.loop-next.readings.len _ _ c.in-Some.reading (next_is g.R.Entry.readings c.loop-next.readings.len c.first-line.result.0.text.now c.first-line.result.0.ended c.in-Ok.next _ c.in-Some.is c.in-Ok.ensures))
+    (search rules, next_few g.R.Entry.readings c.loop-next.readings.len _ _ c.in-Some.reading (next_is g.R.Entry.readings c.loop-next.readings.len c.first_line.result.0.text.now c.first_line.result.0.ended c.in-Ok.next _ c.in-Some.is c.in-Ok.ensures))
 
 pub loop-next-smaller : goal.loop-next-smaller
 loop-next-smaller g c =
-    omega (arith, c.add.ensures.1, next_few g.R.Entry.readings c.loop-next.readings.len _ _ c.in-Some.reading (next_is g.R.Entry.readings c.loop-next.readings.len c.first-line.result.0.text.now c.first-line.result.0.ended c.in-Ok.next _ c.in-Some.is c.in-Ok.ensures))
+    omega (arith, c.add.ensures.1, next_few g.R.Entry.readings c.loop-next.readings.len _ _ c.in-Some.reading (next_is g.R.Entry.readings c.loop-next.readings.len c.first_line.result.0.text.now c.first_line.result.0.ended c.in-Ok.next _ c.in-Some.is c.in-Ok.ensures))
 
-pub returns-then-is-empty : goal.returns-then-is-empty
-returns-then-is-empty g c =
-    let after = c.first-line.result.1.now in
-    ended_well g.R.Entry.readings c.loop-next.invariant c.first-line.ensures c.args.first c.of-readings.ensures.0 (next_is g.R.Entry.readings c.loop-next.readings.len c.first-line.result.0.text.now c.first-line.result.0.ended c.in-Ok.next _ c.in-default.is c.in-Ok.ensures)
-    (nil_from_length after (eqb-true (length after) 0 (sym c.is-empty.ensures ∙ c.if-is-empty.true)))
+pub returns-then-is_empty : goal.returns-then-is_empty
+returns-then-is_empty g c =
+    let after = c.first_line.result.1.now in
+    ended_well g.R.Entry.readings c.loop-next.invariant c.first_line.ensures c.args.first c.of-readings.ensures.0 (next_is g.R.Entry.readings c.loop-next.readings.len c.first_line.result.0.text.now c.first_line.result.0.ended c.in-Ok.next _ c.in_default.is c.in-Ok.ensures)
+    (nil_from_length after (eqb-true (length after) 0 (sym c.is_empty.ensures ∙ c.if-is_empty.true)))
 
-pub returns-in-default : goal.returns-in-default
-returns-in-default g c =
-    let after = c.first-line.result.1.now in
-    subst (λ (n : ℕ). Further g.R.Entry.readings c.args.first c.args.rest.now (Err (15, 6 + n))) (sym c.from-in-default.ensures)
-    (ended_ill g.R.Entry.readings c.loop-next.invariant c.first-line.ensures c.args.first (next_is g.R.Entry.readings c.loop-next.readings.len c.first-line.result.0.text.now c.first-line.result.0.ended c.in-Ok.next _ c.in-default.is c.in-Ok.ensures)
-    (λ e. eqb-false (length after) 0 (sym c.is-empty.ensures ∙ c.if-is-empty.false) (ap length e)))
+pub returns-in_default : goal.returns-in_default
+returns-in_default g c =
+    let after = c.first_line.result.1.now in
+    subst (λ (n : ℕ). Further g.R.Entry.readings c.args.first c.args.rest.now (Err (15, 6 + n))) (sym c.from-in_default.ensures)
+    (ended_ill g.R.Entry.readings c.loop-next.invariant c.first_line.ensures c.args.first (next_is g.R.Entry.readings c.loop-next.readings.len c.first_line.result.0.text.now c.first_line.result.0.ended c.in-Ok.next _ c.in_default.is c.in-Ok.ensures)
+    (λ e. eqb-false (length after) 0 (sym c.is_empty.ensures ∙ c.if-is_empty.false) (ap length e)))
 
 pub returns-in-Err : goal.returns-in-Err
 returns-in-Err g c =
     subst (λ (n : ℕ). Further g.R.Entry.readings c.args.first c.args.rest.now (Err (code c.in-Err.refusal, 5 + n))) (sym c.from.ensures)
-    (faulty g.R.Entry.readings c.loop-next.invariant c.first-line.ensures c.args.first (code c.in-Err.refusal) c.in-Err.ensures)
+    (faulty g.R.Entry.readings c.loop-next.invariant c.first_line.ensures c.args.first (code c.in-Err.refusal) c.in-Err.ensures)
 
 pub loop-next-preserved : goal.loop-next-preserved
 loop-next-preserved g c =
-    midway_more g.R.Entry.readings c.loop-next.invariant c.first-line.ensures c.in-Some.reading _ c.add.new.self.len (next_is g.R.Entry.readings c.loop-next.readings.len c.first-line.result.0.text.now c.first-line.result.0.ended c.in-Ok.next _ c.in-Some.is c.in-Ok.ensures) c.add.ensures.0 c.add.ensures.1
+    midway_more g.R.Entry.readings c.loop-next.invariant c.first_line.ensures c.in-Some.reading _ c.add.new.self.len (next_is g.R.Entry.readings c.loop-next.readings.len c.first_line.result.0.text.now c.first_line.result.0.ended c.in-Ok.next _ c.in-Some.is c.in-Ok.ensures) c.add.ensures.0 c.add.ensures.1

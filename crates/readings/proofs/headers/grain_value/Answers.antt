@@ -2,10 +2,10 @@ use Rattle.std.proofs.Common.{◌≡◌, ◌≤◌, [], ◌∷◌, pos, sym, ap,
 use Rattle.readings.proofs.Making.{grain_made, no_grain}
 use Rattle.readings.proofs.headers.grain_value.Goals as goal
 
-pub returns-in-default-natural : goal.returns-in-default-natural
-returns-in-default-natural c =
+pub returns-in_default-natural : goal.returns-in_default-natural
+returns-in_default-natural c =
     let f : SFits w32 c.in-Some.number = search rules in
-    inl (c.in-Some.number ∷ [], c.in-Some.ensures, no_grain c.in-Some.number (λ n l e. c.in-default-natural.ensures n l (to_z-of_z f ∙ e)))
+    inl (c.in-Some.number ∷ [], c.in-Some.ensures, no_grain c.in-Some.number (λ n l e. c.in_default-natural.ensures n l (to_z-of_z f ∙ e)))
 
 pub returns : goal.returns
 returns c =

@@ -8,4 +8,4 @@ returns c =
     let g = l.fit.1.0 in
     let h = l.fit.1.1.0 in
     let k = l.fit.1.1.1.0 in
-    inl (_, l, simp to_z-of_z at c.box-of.ensures)
+    inl (_, l, simp to_z-of_z at c.box_of.ensures)

@@ -13,6 +13,6 @@ returns-then-file-gt4096 c =
 pub returns : goal.returns
 returns c =
     record {
-      value = inr (c.if-file-gt4096.false, c.read-lines.ensures);
-      form = exact c.args.file.now (answer asked c.read-lines.result) (inr (c.if-file-gt4096.false, c.read-lines.ensures));
+      value = inr (c.if-file-gt4096.false, c.read_lines.ensures);
+      form = exact c.args.file.now (answer asked c.read_lines.result) (inr (c.if-file-gt4096.false, c.read_lines.ensures));
     }
