@@ -8,7 +8,7 @@ loop-reading-init g c =
     entering_begun c.args.readings.now draft.memory.now draft.len (ap length c.new-draft.ensures.same.0 ∙ c.requires.0) c.requires.1 c.new-draft.ensures.empty
 
 pub unreachable-requires : goal.unreachable-requires
-unreachable-requires g c = never_full c.loop-reading.invariant c.loop-reading-test.true c.in-default.field-0 c.in-default.ensures.value
+unreachable-requires g c = never_full c.loop-reading.invariant c.loop-reading-test.true c.in_default.field-0 c.in_default.ensures.value
 
 pub loop-reading-preserved : goal.loop-reading-preserved
 loop-reading-preserved g c =

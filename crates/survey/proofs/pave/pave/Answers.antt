@@ -17,17 +17,17 @@ module _ {X E : Type 0} (file : List ℕ) (text : X → List ℕ) (r : Result X 
 pub returns-in-Ok : goal.returns-in-Ok
 returns-in-Ok c =
     let file = c.args.file.now in
-    let r = c.asked-text.result in
+    let r = c.asked_text.result in
     let value : IfOk r (λ t. Prints file (string_bytes t)) =
-    IfOk-weaker r _ (λ t. Prints file (string_bytes t)) (λ t l. record { came = Ok (asked c.in-Ok.asked); comes = c.in-Ok.ensures.value; says = l }) c.asked-text.ensures
+    IfOk-weaker r _ (λ t. Prints file (string_bytes t)) (λ t l. record { came = Ok (asked c.in-Ok.asked); comes = c.in-Ok.ensures.value; says = l }) c.asked_text.ensures
     in
     record { value = value; ground = ground file string_bytes r value; order = order file string_bytes r value }
 
 pub returns-in-Err : goal.returns-in-Err
 returns-in-Err c =
     let file = c.args.file.now in
-    let r = c.fault-text.result in
+    let r = c.fault_text.result in
     let value : IfOk r (λ t. Prints file (string_bytes t)) =
-    IfOk-weaker r _ (λ t. Prints file (string_bytes t)) (λ t l. record { came = Err (fault_of c.in-Err.fault); comes = c.in-Err.ensures.value; says = l }) c.fault-text.ensures
+    IfOk-weaker r _ (λ t. Prints file (string_bytes t)) (λ t l. record { came = Err (fault_of c.in-Err.fault); comes = c.in-Err.ensures.value; says = l }) c.fault_text.ensures
     in
     record { value = value; ground = ground file string_bytes r value; order = order file string_bytes r value }
