@@ -1,9 +1,9 @@
 // An arc of the dial: its points are, in order, start, start + 1, … round the ring, `len` of them.
 ghost use Rattle.std.specs.Prelude.{◌<◌, ◌≤◌};
 
-pub mod piece;
 pub mod made;
 mod order;
+pub mod piece;
 mod runs;
 pub mod shown;
 

@@ -1,7 +1,8 @@
 // Two contractors of any kind over one domain, as a panel.
 ghost use Rattle.std.specs.Prelude.{◌≡◌, [], ◌∷◌};
 ghost use Rattle.panels.specs.Panels.{means};
-ghost use Rattle.std.proofs.Common.{rules};
+ghost use Rattle.contractor.specs.Meaning.{Sound};
+ghost use Rattle.panels.specs.Pairs.{pair_sound, pair_few};
 
 use crate::panel::Panel;
 use contractor::contractor::Contractor;
@@ -26,9 +27,11 @@ impl<A: Contractor, B: Contractor<Piece = A::Piece>> Panel for Pair<A, B> {
 
     ghost members = { λ p. means A.Contractor.set A.Contractor.kept A.Contractor.dropped p.first ∷ means B.Contractor.set B.Contractor.kept B.Contractor.dropped p.second ∷ [] };
 
-    ghost sound = { Prim.search rules };
+    ghost sound = { λ p.
+        pair_sound _ _ (Sound A.Piece.Domain.maps) (A.Contractor.sound p.first) (B.Contractor.sound p.second) };
 
-    ghost few = { Prim.search rules };
+    ghost few = { λ p.
+        pair_few (means A.Contractor.set A.Contractor.kept A.Contractor.dropped p.first) (means B.Contractor.set B.Contractor.kept B.Contractor.dropped p.second) };
 
     fn count(&self) -> usize {
         2

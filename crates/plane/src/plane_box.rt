@@ -2,9 +2,9 @@
 ghost use Rattle.std.specs.Prelude.{◌≤◌};
 
 pub mod cuts;
-pub mod piece;
 pub mod gathers;
 pub mod made;
+pub mod piece;
 pub mod shown;
 pub mod sides;
 pub mod spans;

@@ -1,7 +1,6 @@
 // Worked trials of the library, printed one after the other.
 #![tactic(auto)]
 
-
 mod bearings;
 mod narrowed;
 mod remainder;
