@@ -5,7 +5,7 @@ import pathlib
 import sys
 
 here = pathlib.Path(__file__).resolve().parent
-repo = pathlib.Path(sys.argv[1] if len(sys.argv) > 1 else "/work/main")
+repo = pathlib.Path(sys.argv[1] if len(sys.argv) > 1 else here.parent)
 crates = repo / "crates"
 edits = collections.defaultdict(set)
 names = collections.defaultdict(set)

@@ -1,6 +1,5 @@
 -- A gathering by the members' stretches is the gathering by points.
-use Rattle.std.proofs.Common.{◌≡◌, ℕ, ◌+◌, ◌-◌, ◌<◌, ◌≤◌, Bool, true, false, cond, ltb, leb, List, [], ◌∷◌, map, Some, None, Option, sym, refl, ap, ◌∙◌, subst, ap₂, arith, MatchOption}
-use Rattle.std.specs.List.{AllByRecursion as All}
+use Rattle.std.proofs.Common.{◌≡◌, ℕ, ◌+◌, ◌-◌, ◌<◌, true, cond, leb, List, [], ◌∷◌, map, Some, Option, sym, refl, ap, ◌∙◌, subst, ap₂, arith}
 use Rattle.std.proofs.lemmas.List.Sums.{sum_by-cons}
 use Rattle.std.proofs.lemmas.Bool.{leb-true}
 use Rattle.std.proofs.lemmas.Bool.Decides.{nat_tests}
@@ -13,7 +12,7 @@ use Rattle.scan.proofs.Runs.{run_is, run_ext}
 use Rattle.domain.specs.Maps.{Inside}
 use Rattle.domain.proofs.Members.{Named}
 use Rattle.dial.specs.declared.arc.Arc.{Arc}
-use Rattle.dial.specs.Arcs.{point, offset, holds, within, begin, end, arc_numbered, taken_up, extent, depth, deep, along, gather, dial}
+use Rattle.dial.specs.Arcs.{point, holds, within, begin, end, taken_up, extent, depth, deep, along, gather, dial}
 use Rattle.dial.specs.Offsets.{point_below, offset_point}
 use Rattle.dial.specs.Slices.{relative}
 

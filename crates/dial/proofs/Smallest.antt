@@ -1,17 +1,17 @@
 -- Spans and gatherings are the smallest arcs that hold what they must.
-use Rattle.std.proofs.Common.{◌≡◌, ℕ, suc, ◌+◌, ◌-◌, ◌<◌, ◌≤◌, min, max, Bool, true, false, ltb, leb, ◌⊎◌, List, map, IfSome, Some, None, Option, sym, refl, ap, ◌∙◌, subst, inl, inr, arith, MatchOption}
-use Rattle.std.proofs.lemmas.Bool.{and_from, lt-ltb, leb-true, le-leb}
+use Rattle.std.proofs.Common.{◌≡◌, ℕ, ◌-◌, ◌<◌, ◌≤◌, true, ◌⊎◌, List, map, IfSome, Some, None, Option, sym, ap, ◌∙◌, subst, inl, inr, arith, MatchOption}
+use Rattle.std.proofs.lemmas.Bool.{leb-true}
 use Rattle.scan.specs.Depth as stretches
 use Rattle.scan.specs.Depth.{Below}
 use Rattle.scan.specs.Live.{run, Runs}
 use Rattle.scan.specs.declared.stretch.Stretch.{Stretch}
 use Rattle.scan.proofs.Counting.{from_to}
 use Rattle.domain.specs.Maps.{pieces, times, Inside, Fits, Holds, Members, Gathered, Smallest}
-use Rattle.domain.proofs.Members.{Named, named, members_pieces}
+use Rattle.domain.proofs.Members.{named, members_pieces}
 use Rattle.dial.specs.declared.arc.Arc.{Arc}
-use Rattle.dial.specs.Arcs.{point, offset, holds, within, begin, end, span, depth, deep, along, gather, extent, dial}
+use Rattle.dial.specs.Arcs.{point, holds, within, begin, end, span, depth, deep, along, gather, extent, dial}
 use Rattle.dial.proofs.Gathers.{found_runs, found_gather}
-use Rattle.dial.specs.Lawful.{lawful, laid, ran, spanned, gather_within, gather_holds, span_within, held}
+use Rattle.dial.specs.Lawful.{laid, ran, spanned, gather_holds, span_within, held}
 use Rattle.dial.specs.Offsets.{point_below, offset_point}
 use Rattle.dial.specs.Slices.{relative, from_to_true, from_to_parts, nested}
 

@@ -1,5 +1,5 @@
 -- The dial keeps the laws of a domain.
-use Rattle.std.specs.Prelude.{◌≡◌, ℕ, suc, ◌+◌, ◌-◌, ◌*◌, ◌/◌, ◌%◌, ◌^◌, ◌<◌, ◌≤◌, min, max, Bool, true, false, cond, ◌⊎◌, List, [], ◌∷◌, ◌++◌, length, Some, None, Option, MatchOption, nat_le, nat_lt, refl}
+use Rattle.std.specs.Prelude.{◌≡◌, ℕ, suc, ◌+◌, ◌-◌, ◌/◌, ◌%◌, ◌<◌, ◌≤◌, min, max, true, false, cond, List, [], ◌∷◌, length, Some, None, Option, MatchOption, nat_le, nat_lt, refl}
 use Rattle.std.proofs.Common.{arith, inl, inr, sym, ap, ap₂, subst, ◌∙◌}
 use Rattle.std.proofs.Math.Path.{fun_ext}
 use Rattle.std.specs.Option.{unwrap_or, option_to_list}
@@ -10,15 +10,15 @@ use Rattle.std.proofs.lemmas.List.Sorted.{sum_by-IsPermutation}
 use Rattle.std.proofs.lemmas.List.Sums.{sum_by-append, count_by-le-length}
 use Rattle.std.proofs.lemmas.Bool.{cases_lt, both_ways, and_parts, leb-true, ltb-true, le-leb, lt-leb}
 use Rattle.std.proofs.lemmas.Bool.Decides.{nat_tests}
-use Rattle.scan.specs.Count.{bit, sum_below, count_below}
+use Rattle.scan.specs.Count.{bit, count_below}
 use Rattle.scan.specs.Live.{run, Runs}
 use Rattle.scan.specs.Powers.{log_up}
 use Rattle.scan.specs.declared.stretch.Stretch.{Stretch}
 use Rattle.scan.proofs.Counting.{from_to, count_from_to, sum_ext, sum_add}
-use Rattle.scan.proofs.Logs.{log_up_enough, log_up_least, log_up_mono, log_up_half}
+use Rattle.scan.proofs.Logs.{log_up_least, log_up_mono, log_up_half}
 use Rattle.scan.proofs.Runs.{run_is, run_unique}
 use Rattle.domain.specs.Laws.{Laws}
-use Rattle.domain.specs.Maps.{Maps, points, times, Parts, Inside, Fits, Holds}
+use Rattle.domain.specs.Maps.{points, times, Parts, Inside, Fits, Holds}
 use Rattle.domain.proofs.Totals.{times_cons, times_held}
 use Rattle.dial.specs.declared.arc.Arc.{Arc}
 use Rattle.dial.specs.Arcs.{arc_of, point, offset, holds, within, part, begin, end, halves, strips, span, depth, deep, along, gather, number, arc_numbered, dial}

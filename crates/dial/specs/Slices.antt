@@ -1,5 +1,5 @@
 -- A sub-piece of an arc is a stretch of the arc's own order.
-use Rattle.std.specs.Prelude.{◌≡◌, ℕ, ◌+◌, ◌-◌, ◌<◌, ◌≤◌, Bool, true, false, ◌⊎◌, List, [], ◌∷◌, Some, None, Option, nat_le, nat_lt, refl}
+use Rattle.std.specs.Prelude.{◌≡◌, ℕ, ◌+◌, ◌<◌, ◌≤◌, true, false, List, [], ◌∷◌, Some, None, nat_le, nat_lt, refl}
 use Rattle.std.proofs.Common.{arith, inl, inr, sym, ap, ap₂, subst, ◌∙◌}
 use Rattle.std.specs.Option.{option_to_list}
 use Rattle.std.proofs.lemmas.Bool.{cases_lt, leb-true, ltb-true, le-leb, and_parts}
@@ -9,9 +9,9 @@ use Rattle.scan.proofs.Counting.{from_to}
 use Rattle.domain.specs.Maps.{times, Inside}
 use Rattle.domain.proofs.Totals.{times_cons}
 use Rattle.dial.specs.declared.arc.Arc.{Arc}
-use Rattle.dial.specs.Arcs.{arc_of, point, offset, holds, within, part, begin, end, dial}
+use Rattle.dial.specs.Arcs.{point, offset, holds, within, part, begin, end, dial}
 use Rattle.dial.specs.Made.{arc_some, arc_none}
-use Rattle.dial.specs.Offsets.{point_below, offset_below, offset_point, offset_self, offset_by}
+use Rattle.dial.specs.Offsets.{point_below, offset_below, offset_point, offset_by}
 
 -- what is no point is held by no arc
 pub holds_beyond : (a : Arc) (n : ℕ) → 3600 ≤ n → holds a n ≡ false

@@ -1,11 +1,11 @@
 -- What follows from the laws for every domain: sums over parts, and what a count tells.
-use Rattle.std.proofs.Common.{◌≡◌, ℕ, zero, suc, ◌+◌, ◌*◌, ◌^◌, ◌<◌, ◌≤◌, Bool, true, false, cond, ◌⊎◌, List, [], ◌∷◌, ◌++◌, length, sym, refl, ap, ◌∙◌, inl, inr, arith}
+use Rattle.std.proofs.Common.{◌≡◌, ℕ, zero, suc, ◌+◌, ◌^◌, ◌<◌, ◌≤◌, Bool, true, false, cond, List, [], ◌∷◌, ◌++◌, length, sym, refl, ◌∙◌, inl, inr, arith}
 use Rattle.std.specs.List.{AllByRecursion as All}
 use Rattle.std.proofs.lemmas.List.Sums.{sum_by-cons, sum_by-append}
 use Rattle.std.proofs.lemmas.Bool.{cases_lt, cases_Bool}
 use Rattle.std.proofs.lemmas.Nat.{pow_pos}
-use Rattle.scan.specs.Count.{bit, sum_below, count_below}
-use Rattle.scan.proofs.Counting.{sum_ext, sum_mono, sum_add, sum_zero, bit_le, bit_true, bit_false}
+use Rattle.scan.specs.Count.{bit, sum_below}
+use Rattle.scan.proofs.Counting.{sum_ext, sum_mono, sum_add, sum_zero, bit_true, bit_false}
 use native.Mathlib.Nat.{pow-succ'}
 use Rattle.domain.specs.Laws.{Laws, Consequences}
 use Rattle.domain.specs.Maps.{Maps, points, times, total, Parts, Inside}

@@ -1,5 +1,5 @@
 -- What any domain must show of its maps.
-use Rattle.std.specs.Prelude.{◌≡◌, ℕ, ◌+◌, ◌^◌, ◌<◌, ◌≤◌, Bool, true, List, [], ◌∷◌, length, Some, None, Option, MatchOption}
+use Rattle.std.specs.Prelude.{◌≡◌, ℕ, ◌+◌, ◌^◌, ◌<◌, ◌≤◌, true, List, [], ◌∷◌, length, Some, None, MatchOption}
 use Rattle.std.specs.List.Sorted.{IsPermutation}
 use Rattle.scan.specs.Count.{count_below}
 use Rattle.domain.specs.Maps.{Maps, points, times, total, Parts, Inside, Fits, Holds}

@@ -1,8 +1,8 @@
 -- The maps of a domain over its pieces P. A point is known by its number.
-use Rattle.std.specs.Prelude.{◌≡◌, ℕ, zero, suc, ◌+◌, ◌^◌, ◌<◌, ◌≤◌, Bool, true, List, [], ◌∷◌, ◌++◌, IfSome, Some, None, sum_by, count_by, Option, MatchOption}
+use Rattle.std.specs.Prelude.{◌≡◌, ℕ, ◌^◌, Bool, true, List, [], ◌∷◌, ◌++◌, IfSome, Some, None, sum_by, count_by, Option, MatchOption}
 use Rattle.std.specs.List.{AllByRecursion as All}
 use Rattle.std.specs.Option.{option_to_list}
-use Rattle.scan.specs.Count.{bit, count_below}
+use Rattle.scan.specs.Count.{bit}
 use Rattle.domain.specs.declared.strip_slots.Strips.{Strips}
 
 pub record Maps (P : Type 0) : Type 0 where

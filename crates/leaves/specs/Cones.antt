@@ -1,5 +1,5 @@
 -- A cone: the points between two directions from a beacon, counterclockwise from the first to the second.
-use Rattle.std.specs.Prelude.{◌≡◌, ℕ, ◌/◌, ◌%◌, ◌≤◌, Bool, ◌&&◌, ◌||◌, ◌⊎◌, ℤ, pos, negsuc, ◌-ℤ◌, ◌*ℤ◌, ◌≤ℤ◌, ◌<ℤ◌, Option, Result, MatchResult, int_le, int_lt}
+use Rattle.std.specs.Prelude.{◌≡◌, ℕ, ◌/◌, ◌%◌, Bool, ◌&&◌, ◌||◌, ◌⊎◌, ℤ, pos, negsuc, ◌-ℤ◌, ◌*ℤ◌, ◌≤ℤ◌, ◌<ℤ◌, Option, Result, MatchResult, int_le, int_lt}
 use Rattle.std.specs.Int.{int_max, int_min}
 use Rattle.domain.specs.Refusals.{code}
 use Rattle.domain.specs.declared.refusal.Refusal.{Refusal}

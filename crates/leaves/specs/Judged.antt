@@ -3,7 +3,7 @@ use Rattle.std.specs.Prelude.{ℕ, ◌≤◌, Bool, IfSome, Some, None, Option}
 use Rattle.scan.specs.Live.{run}
 use Rattle.scan.specs.declared.stretch.Stretch.{Stretch}
 use Rattle.plane.specs.declared.plane_box.PlaneBox.{PlaneBox}
-use Rattle.plane.specs.Boxes.{columns, rows, wide, tall, crossed}
+use Rattle.plane.specs.Boxes.{rows, wide, tall, crossed}
 
 -- whether a column is live, by a stretch of rows; or a row, by a stretch of columns
 abbrev pub Test : Type 0

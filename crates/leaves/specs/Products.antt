@@ -1,5 +1,5 @@
 -- A product of a direction number and an offset: its size, and that it rises or falls all along.
-use Rattle.std.specs.Prelude.{◌≡◌, ℕ, zero, suc, ◌+◌, ◌-◌, ◌*◌, ◌<◌, ◌≤◌, ℤ, pos, negsuc, ◌+ℤ◌, ◌-ℤ◌, ◌*ℤ◌, neg_ℤ, ◌≤ℤ◌, ◌<ℤ◌, Decides, FitsSigned, int_lt, unsigned_abs, refl}
+use Rattle.std.specs.Prelude.{◌≡◌, ℕ, zero, suc, ◌+◌, ◌-◌, ◌*◌, ◌≤◌, ℤ, pos, negsuc, ◌+ℤ◌, ◌-ℤ◌, ◌*ℤ◌, neg_ℤ, ◌≤ℤ◌, ◌<ℤ◌, Decides, FitsSigned, int_lt, unsigned_abs, refl}
 use Rattle.std.proofs.Common.{arith, sym, ap, ap₂, subst, ◌∙◌, to_z, of_z}
 use Rattle.std.proofs.Math.IntN.{suc_ℤ, suc_ℤ-+ℤ, suc_ℤ-*ℤ, *ℤ_comm}
 use Rattle.std.specs.Int.Signed.{≤ℤ_refl}

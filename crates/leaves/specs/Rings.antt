@@ -1,5 +1,5 @@
 -- A ring: the points whose distance from a beacon is from a to b. Distances are compared by their squares.
-use Rattle.std.specs.Prelude.{◌≡◌, ℕ, ◌+◌, ◌-◌, ◌*◌, ◌/◌, ◌%◌, ◌≤◌, Bool, ◌&&◌, ◌||◌, ◌⊎◌, ℤ, pos, negsuc, ◌-ℤ◌, ◌≤ℤ◌, Option, Result, MatchResult, nat_le, nat_lt, unsigned_abs}
+use Rattle.std.specs.Prelude.{◌≡◌, ℕ, ◌+◌, ◌*◌, ◌/◌, ◌%◌, Bool, ◌&&◌, ◌||◌, ◌⊎◌, ℤ, pos, negsuc, ◌-ℤ◌, ◌≤ℤ◌, Option, Result, MatchResult, nat_le, nat_lt, unsigned_abs}
 use Rattle.domain.specs.Refusals.{code}
 use Rattle.domain.specs.declared.refusal.Refusal.{Refusal}
 use Rattle.scan.specs.declared.stretch.Stretch.{Stretch}

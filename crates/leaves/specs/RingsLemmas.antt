@@ -1,5 +1,5 @@
 -- A ring keeps the laws of a contractor.
-use Rattle.std.specs.Prelude.{◌≡◌, ℕ, ◌+◌, ◌-◌, ◌≤◌, min, true, not, ◌&&◌, ◌||◌, ltb, leb, ℤ, nat_le, nat_lt, refl}
+use Rattle.std.specs.Prelude.{◌≡◌, ℕ, ◌+◌, ◌≤◌, min, true, not, ◌&&◌, ◌||◌, ltb, leb, ℤ, nat_le, nat_lt, refl}
 use Rattle.std.proofs.Common.{arith, ap, ap₂}
 use Rattle.std.proofs.lemmas.Bool.Decides.{nat_tests}
 use Rattle.scan.specs.declared.stretch.Stretch.{Stretch}

@@ -1,15 +1,12 @@
 -- Numbers between commas.
-use Rattle.std.proofs.Common.{◌≡◌, ℕ, zero, suc, ◌+◌, ◌^◌, ◌<◌, ◌≤◌, true, List, [], ◌∷◌, ◌++◌, length, get_or, ℤ, pos, negsuc, decimal, sym, refl, ap, ◌∙◌, subst, arith, w32, SFits}
+use Rattle.std.proofs.Common.{◌≡◌, ℕ, zero, suc, ◌^◌, ◌<◌, List, [], ◌∷◌, ◌++◌, ℤ, pos, negsuc, decimal, sym, refl, ap, ◌∙◌, subst, arith, w32, SFits}
 use lib.Signed.{mag}
-use Rattle.std.specs.List.{AllByRecursion as All}
-use Rattle.std.specs.Int.{IsInRange}
 use Rattle.std.specs.Fmt.{signed_decimal}
-use Rattle.std.specs.Str.{all_ascii_digits}
 use Rattle.std.proofs.lemmas.Fmt.{signed_decimal_injective}
 use Rattle.std.proofs.ByRecursion.{All-from_get_or}
 use Rattle.numerals.specs.Lists.{Without, Cut, listed, Lists}
-use Rattle.numerals.proofs.Cuts.{one_cut, never_cut}
-use Rattle.numerals.proofs.Digits.{Looks, looks, digit_in}
+use Rattle.numerals.proofs.Cuts.{one_cut}
+use Rattle.numerals.proofs.Digits.{looks, digit_in}
 
 small_pos : (n : ℕ) → SFits w32 (pos n) → n < 2 ^ 31
 small_pos n f = f.sfits

@@ -1,9 +1,9 @@
 -- A number with its sign.
-use Rattle.std.proofs.Common.{◌≡◌, ℕ, suc, ◌+◌, ◌-◌, ◌^◌, ◌<◌, ◌≤◌, List, [], ◌∷◌, length, get_or, take, drop, ℤ, pos, negsuc, Some, None, decimal, Option, sym, refl, ap, ◌∙◌, subst, arith, w32, SFits, MatchOption}
+use Rattle.std.proofs.Common.{◌≡◌, ℕ, suc, ◌-◌, ◌^◌, ◌<◌, List, ◌∷◌, length, get_or, take, drop, ℤ, pos, negsuc, Some, None, decimal, Option, sym, ap, ◌∙◌, arith, w32, SFits, MatchOption}
 use Rattle.std.specs.Fmt.{signed_decimal}
 use Rattle.std.proofs.lemmas.Fmt.{decimal_nonempty}
 use Rattle.std.proofs.lemmas.List.{take_rest, drop_more}
-use Rattle.numerals.proofs.Digits.{Looks, looks, digit_in}
+use Rattle.numerals.proofs.Digits.{looks, digit_in}
 
 -- what fits 32 signed bits
 small_pos : (n : ℕ) → SFits w32 (pos n) → n < 2 ^ 31

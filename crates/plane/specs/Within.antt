@@ -1,5 +1,5 @@
 -- Being a sub-box, as inequalities; and what cells a box has.
-use Rattle.std.specs.Prelude.{◌≡◌, ℕ, ◌-◌, ◌/◌, ◌%◌, ◌≤◌, true, nat_le}
+use Rattle.std.specs.Prelude.{◌≡◌, ℕ, ◌/◌, ◌%◌, ◌≤◌, true, nat_le}
 use Rattle.std.proofs.lemmas.Bool.{leb-true, le-leb, and_parts, and_from}
 use Rattle.scan.specs.Depth.{covers}
 use Rattle.scan.specs.declared.stretch.Stretch.{Stretch}

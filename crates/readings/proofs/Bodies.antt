@@ -1,13 +1,13 @@
 -- The lines after the first reading.
-use Rattle.std.proofs.Common.{◌≡◌, ℕ, zero, suc, ◌+◌, ◌-◌, ◌<◌, ◌≤◌, Bool, true, false, cond, eqb, ltb, ◌⊎◌, List, [], ◌∷◌, ◌++◌, length, ℤ, Some, None, Ok, Err, codes, Option, Result, sym, refl, ap, ◌∙◌, subst, inl, inr, add-one, arith}
+use Rattle.std.proofs.Common.{◌≡◌, ℕ, suc, ◌+◌, ◌<◌, ◌≤◌, Bool, true, false, cond, eqb, ltb, List, [], ◌∷◌, ◌++◌, length, Some, None, Ok, Err, codes, Option, Result, sym, refl, ap, ◌∙◌, subst, inl, inr, add-one, arith}
 use Rattle.std.proofs.lemmas.List.{append_assoc, append-nil, length_push, length-take-le}
 use Rattle.std.proofs.lemmas.Bool.{ltb-true, lt-ltb, le-ltb, eqb-true, eqb-false}
-use Rattle.readings.specs.Files.{Rest, refused, last, beyond, another, before, judged, Meant}
+use Rattle.readings.specs.Files.{Rest, refused, last, beyond, another, before, judged}
 use Rattle.readings.specs.Lines.{Begins, Keyed, Numbers}
 use Rattle.readings.specs.Requests.{Further, entered}
 use Rattle.readings.specs.declared.readings.Readings.{Readings}
 use Rattle.sheet.specs.declared.grain.Grain.{Grain}
-use Rattle.readings.specs.Sorts.{EnteringLine, EndLine, EndValue, NextLine, entering}
+use Rattle.readings.specs.Sorts.{EndValue, NextLine, entering}
 
 module _ {R : Type 0} where
   -- readings in front of what the rest comes to

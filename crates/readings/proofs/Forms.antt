@@ -1,8 +1,8 @@
 -- A file comes to one thing only, and to a survey just where it is written of it.
-use Rattle.std.proofs.Common.{◌≡◌, ℕ, suc, ◌+◌, ◌*◌, ◌<◌, ◌≤◌, Bool, true, false, ltb, ◌⊎◌, List, [], ◌∷◌, ◌++◌, length, pos, Ok, Err, codes, decimal, Result, sym, refl, ap, ◌∙◌, subst, inl, inr, zero-add, arith}
+use Rattle.std.proofs.Common.{◌≡◌, ℕ, ◌+◌, ◌*◌, ◌<◌, ◌≤◌, Bool, true, false, ltb, ◌⊎◌, List, [], ◌∷◌, ◌++◌, length, pos, Ok, Err, codes, decimal, Result, sym, refl, ap, ◌∙◌, subst, inl, inr, zero-add, arith}
 use Rattle.std.specs.List.{flat_map}
 use Rattle.std.proofs.lemmas.List.{append_assoc, length-append}
-use Rattle.std.proofs.lemmas.Bool.{ltb-true, lt-ltb}
+use Rattle.std.proofs.lemmas.Bool.{ltb-true}
 use Rattle.dial.specs.declared.arc.Arc.{Arc}
 use Rattle.plane.specs.declared.plane_box.PlaneBox.{PlaneBox}
 use Rattle.leaves.specs.declared.arc.ArcReading.{ArcReading}
@@ -10,14 +10,14 @@ use Rattle.leaves.specs.declared.plane_reading.PlaneReading.{PlaneReading}
 use Rattle.leaves.specs.declared.plane_reading.PlaneReading.TheVariants.{Ring as OfRing, Cone as OfCone}
 use Rattle.numerals.specs.Lists.{listed}
 use Rattle.sheet.specs.declared.grain.Grain.{Grain}
-use Rattle.readings.specs.Files.{Meant, Survey, on_plane, on_dial, Sensible, line, lines, ring_line, arc_line, written, Makes, HasForm, Rest, judged, Body, told, Bodies, Lines, Comes, Exact}
-use Rattle.readings.specs.Lines.{Begins, Then, Keyed, Numbers}
-use Rattle.readings.specs.Sorts.{name, box_numbers, arc_numbers, SheetLine, LiarsLine, GrainLine, StartLine, BoxValue, ArcValue, RingValue, ConeValue, BearingValue, PlaneLine, DialLine}
+use Rattle.readings.specs.Files.{Meant, Survey, on_plane, on_dial, Sensible, line, lines, ring_line, arc_line, HasForm, Rest, judged, Body, told, Bodies, Lines, Comes, Exact}
+use Rattle.readings.specs.Lines.{Begins, Then, Numbers}
+use Rattle.readings.specs.Sorts.{name, arc_numbers, SheetLine, LiarsLine, GrainLine, StartLine, BoxValue, ArcValue, RingValue, ConeValue, BearingValue, PlaneLine, DialLine}
 use Rattle.readings.specs.declared.kind.Kind.{Kind}
 use Rattle.readings.specs.declared.kind.Kind.TheVariants.{Plane, Dial}
 use Rattle.readings.proofs.Bodies.{few_enough}
 use Rattle.readings.proofs.Chains.{passed}
-use Rattle.readings.proofs.Nexts.{end_text, tail_text, rest_writes, rest_reads}
+use Rattle.readings.proofs.Nexts.{tail_text, rest_writes, rest_reads}
 use Rattle.readings.proofs.Once.{One, Sure, then_one, rest_one}
 use Rattle.readings.proofs.Texts.{listed_short, small_natural}
 use Rattle.readings.proofs.Writes.{Writes, Any, sheet_sort, liars_sort, grain_sort, box_sort, arc_sort, plane_sort, dial_sort, plane_text, other_key}

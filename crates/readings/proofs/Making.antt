@@ -1,20 +1,14 @@
 -- What numbers come to: a grain, a piece, a ring, a cone.
-use Rattle.std.proofs.Common.{◌≡◌, ℕ, suc, ◌+◌, ◌<◌, ◌≤◌, ◌⊎◌, List, [], ◌∷◌, ℤ, pos, negsuc, Ok, Err, Result, sym, refl, ap, ◌∙◌, subst, inl, inr, arith}
-use Rattle.domain.specs.Refusals.{Given, code}
+use Rattle.std.proofs.Common.{◌≡◌, ℕ, ◌≤◌, List, [], ◌∷◌, ℤ, pos, Ok, Err, Result, sym, refl, ap, ◌∙◌, subst, inl, inr, arith}
+use Rattle.domain.specs.Refusals.{Given}
 use Rattle.domain.specs.declared.refusal.Refusal.{Refusal}
 use Rattle.plane.specs.Boxes.{AreBox, HasNumbers}
 use Rattle.plane.specs.declared.plane_box.PlaneBox.{PlaneBox}
 use Rattle.dial.specs.Arcs.{AreArc}
 use Rattle.dial.specs.declared.arc.Arc.{Arc}
-use Rattle.leaves.specs.Cones
-use Rattle.leaves.specs.Rings
-use Rattle.leaves.specs.declared.cone.Cone.{Cone}
-use Rattle.leaves.specs.declared.plane_reading.PlaneReading.{PlaneReading}
-use Rattle.leaves.specs.declared.plane_reading.PlaneReading.TheVariants.{Ring as OfRing, Cone as OfCone}
-use Rattle.leaves.specs.declared.ring.Ring.{Ring}
 use Rattle.sheet.specs.declared.grain.Grain.{Grain}
 use Rattle.readings.specs.Lines.{The, numbered}
-use Rattle.readings.specs.Sorts.{ArcValue, BearingValue, GrainValue, box_numbers, arc_numbers, ring_numbers, cone_numbers, IsRing, IsCone, RingValue, ConeValue, Beacon, Directed}
+use Rattle.readings.specs.Sorts.{ArcValue, BearingValue, GrainValue, box_numbers, arc_numbers}
 
 pos_same : (m n : ℕ) → pos m ≡ pos n → m ≡ n
 pos_same m n e = cc

@@ -1,13 +1,13 @@
 -- The lines after the start: what is written is read, and nothing else is.
-use Rattle.std.proofs.Common.{◌≡◌, ℕ, zero, suc, ◌+◌, ◌<◌, ◌≤◌, Bool, true, false, cond, eqb, ltb, ◌⊎◌, List, [], ◌∷◌, ◌++◌, length, ℤ, pos, Some, None, Ok, Err, codes, decimal, Option, Result, sym, refl, ap, ◌∙◌, subst, inl, inr, add-zero, arith}
+use Rattle.std.proofs.Common.{◌≡◌, ℕ, suc, ◌+◌, ◌<◌, ◌≤◌, Bool, true, false, cond, eqb, ltb, List, [], ◌∷◌, ◌++◌, length, pos, Some, None, Ok, Err, codes, decimal, Option, Result, sym, refl, ap, ◌∙◌, subst, inl, inr, add-zero, arith}
 use Rattle.std.specs.List.{flat_map}
 use Rattle.std.proofs.ByRecursion.{All-append}
 use Rattle.std.proofs.lemmas.List.{append_assoc}
-use Rattle.std.proofs.lemmas.Bool.{ltb-true, lt-ltb, eqb-true, eqb-false, ne_eqb}
+use Rattle.std.proofs.lemmas.Bool.{lt-ltb, eqb-false, ne_eqb}
 use Rattle.numerals.specs.Lists.{listed}
-use Rattle.readings.specs.Files.{Rest, refused, last, beyond, another, before}
-use Rattle.readings.specs.Lines.{Begins, The, Numbers, Whole, Keyed}
-use Rattle.readings.specs.Sorts.{EndValue, EndLine, EnteringLine, NextLine, entering, full}
+use Rattle.readings.specs.Files.{Rest, refused, last, beyond, another}
+use Rattle.readings.specs.Lines.{Begins, Numbers, Keyed}
+use Rattle.readings.specs.Sorts.{EndValue, NextLine, entering, full}
 use Rattle.readings.proofs.Bodies.{next_few}
 use Rattle.readings.proofs.Texts.{without_end, listed_without, small_natural}
 use Rattle.readings.proofs.Writes.{Writes, Any}

@@ -1,7 +1,6 @@
 -- A line, a value, a file comes to one thing only.
-use Rattle.std.proofs.Common.{◌≡◌, ℕ, suc, ◌+◌, Bool, true, false, cond, eqb, ◌⊎◌, List, [], ◌∷◌, ◌++◌, ℤ, pos, Some, None, Ok, Err, codes, Option, Result, sym, refl, ap, ◌∙◌, subst, inl, inr, arith}
+use Rattle.std.proofs.Common.{◌≡◌, ℕ, suc, ◌+◌, Bool, true, false, cond, eqb, ◌⊎◌, List, [], ◌∷◌, ℤ, pos, Some, None, Ok, Err, codes, Option, Result, sym, refl, ap, ◌∙◌, subst, inl, inr, arith}
 use Rattle.std.proofs.lemmas.List.{append_cancel_left}
-use Rattle.numerals.specs.Lists.{Lists}
 use Rattle.numerals.proofs.Commas.{one_list}
 use Rattle.numerals.proofs.Cuts.{one_cut, never_cut}
 use Rattle.readings.specs.Files.{Rest, refused, last, beyond, another, before}

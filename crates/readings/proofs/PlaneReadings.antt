@@ -1,5 +1,5 @@
 -- What numbers come to as a reading of the plane.
-use Rattle.std.proofs.Common.{◌≡◌, ℕ, ◌⊎◌, List, [], ◌∷◌, ℤ, pos, negsuc, ◌≤ℤ◌, Ok, Err, Result, sym, refl, ap, ◌∙◌, subst, inl, inr, arith}
+use Rattle.std.proofs.Common.{◌≡◌, ◌⊎◌, [], ◌∷◌, ℤ, pos, Ok, Err, sym, refl, subst, inl, inr, arith}
 use Rattle.std.proofs.lemmas.Int.{ints}
 use Rattle.domain.specs.Refusals.{code}
 use Rattle.domain.specs.declared.refusal.Refusal.{Refusal}
@@ -9,7 +9,7 @@ use Rattle.leaves.specs.declared.cone.Cone.{Cone}
 use Rattle.leaves.specs.declared.plane_reading.PlaneReading.{PlaneReading}
 use Rattle.leaves.specs.declared.plane_reading.PlaneReading.TheVariants.{Ring as OfRing, Cone as OfCone}
 use Rattle.leaves.specs.declared.ring.Ring.{Ring}
-use Rattle.readings.specs.Sorts.{ring_numbers, cone_numbers, IsRing, IsCone, RingValue, ConeValue, Beacon, Directed}
+use Rattle.readings.specs.Sorts.{cone_numbers, IsRing, IsCone, RingValue, ConeValue, Beacon, Directed}
 
 -- a ring's numbers are in their ranges
 ring_beacon : (r : Ring) (bx by : ℤ) → bx ≡ r.bx → by ≡ r.by → IsBeacon bx by

@@ -1,21 +1,17 @@
 -- Each sort of lines: what is written is read, and nothing else is.
-use Rattle.std.proofs.Common.{◌≡◌, ℕ, suc, ◌+◌, ◌*◌, ◌<◌, ◌≤◌, Bool, true, false, ◌⊎◌, List, [], ◌∷◌, ◌++◌, length, ℤ, pos, Ok, Err, codes, decimal, Result, sym, refl, ap, ◌∙◌, subst, inl, inr, arith, w32, SFits}
+use Rattle.std.proofs.Common.{◌≡◌, ℕ, suc, ◌≤◌, Bool, true, false, ◌⊎◌, List, [], ◌∷◌, ◌++◌, length, ℤ, pos, Ok, Err, codes, decimal, Result, sym, refl, ap, ◌∙◌, subst, inl, inr, arith, w32, SFits}
 use Rattle.std.specs.List.{AllByRecursion as All}
 use Rattle.std.proofs.ByRecursion.{All-append}
 use Rattle.std.proofs.lemmas.List.{length-append}
 use Rattle.dial.specs.Made.{same_arc}
 use Rattle.dial.specs.declared.arc.Arc.{Arc}
 use Rattle.plane.specs.Made.{same_box}
-use Rattle.plane.specs.declared.plane_box.PlaneBox.{PlaneBox}
 use Rattle.leaves.specs.declared.arc.ArcReading.{ArcReading}
-use Rattle.leaves.specs.declared.cone.Cone.{Cone}
 use Rattle.leaves.specs.declared.plane_reading.PlaneReading.{PlaneReading}
 use Rattle.leaves.specs.declared.plane_reading.PlaneReading.TheVariants.{Ring as OfRing, Cone as OfCone}
-use Rattle.leaves.specs.declared.ring.Ring.{Ring}
-use Rattle.numerals.specs.Lists.{Without, Lists, listed}
-use Rattle.sheet.specs.declared.grain.Grain.{Grain}
-use Rattle.readings.specs.Lines.{The, Numbers, Whole, Keyed, Else}
-use Rattle.readings.specs.Sorts.{name, box_numbers, arc_numbers, ring_numbers, cone_numbers, SheetValue, SheetLine, LiarsLine, LiarsValue, GrainLine, GrainValue, BoxValue, ArcValue, BearingValue, StartLine, IsRing, IsCone, Beacon, Directed, RingValue, ConeValue, PlaneLine, DialLine}
+use Rattle.numerals.specs.Lists.{Without, listed}
+use Rattle.readings.specs.Lines.{The, Numbers, Keyed}
+use Rattle.readings.specs.Sorts.{name, box_numbers, arc_numbers, ring_numbers, cone_numbers, SheetValue, SheetLine, LiarsLine, GrainLine, BoxValue, ArcValue, StartLine, IsRing, IsCone, Beacon, Directed, RingValue, ConeValue, PlaneLine, DialLine}
 use Rattle.readings.specs.declared.kind.Kind.{Kind}
 use Rattle.readings.specs.declared.kind.Kind.TheVariants.{Plane, Dial}
 use Rattle.readings.proofs.Once.{One, Sure, the_one, numbers_one, keyed_one, else_one}

@@ -1,5 +1,5 @@
 -- A readings file: what may be meant by one, how that is written, and what any bytes come to.
-use Rattle.std.specs.Prelude.{◌≡◌, ℕ, suc, ◌+◌, ◌<◌, ◌≤◌, Bool, true, false, ◌⊎◌, List, [], ◌∷◌, ◌++◌, length, pos, Some, None, Ok, Err, codes, decimal, Result, ◌≢◌, nat_lt}
+use Rattle.std.specs.Prelude.{◌≡◌, ℕ, suc, ◌+◌, ◌<◌, ◌≤◌, Bool, true, false, ◌⊎◌, List, [], ◌∷◌, ◌++◌, length, Some, None, Ok, Err, codes, decimal, Result, ◌≢◌, nat_lt}
 use Rattle.std.specs.List.{flat_map}
 use Rattle.dial.specs.declared.arc.Arc.{Arc}
 use Rattle.plane.specs.declared.plane_box.PlaneBox.{PlaneBox}

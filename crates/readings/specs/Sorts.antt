@@ -1,5 +1,5 @@
 -- The sorts of lines of a readings file.
-use Rattle.std.specs.Prelude.{◌≡◌, ℕ, ◌≤◌, min, Bool, true, false, cond, ◌⊎◌, List, [], ◌∷◌, ◌++◌, ℤ, pos, Some, None, Ok, Err, codes, Option, Result, ◌==◌, nat_lt}
+use Rattle.std.specs.Prelude.{◌≡◌, ℕ, ◌≤◌, min, Bool, true, false, cond, ◌⊎◌, List, [], ◌∷◌, ℤ, pos, Some, None, Ok, Err, codes, Option, Result, ◌==◌, nat_lt}
 use Rattle.dial.specs.declared.arc.Arc.{Arc}
 use Rattle.plane.specs.declared.plane_box.PlaneBox.{PlaneBox}
 use Rattle.leaves.specs.Cones.{InRange}

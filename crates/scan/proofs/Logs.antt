@@ -1,10 +1,10 @@
 -- What the least power of two is.
-use Rattle.std.proofs.Common.{◌≡◌, ℕ, zero, suc, ◌+◌, ◌-◌, ◌*◌, ◌/◌, ◌^◌, ◌<◌, ◌≤◌, Bool, true, false, leb, ◌⊎◌, Some, None, Option, unwrap_or, sym, refl, ap, ◌∙◌, subst, inl, inr, arith}
+use Rattle.std.proofs.Common.{◌≡◌, ℕ, zero, suc, ◌+◌, ◌^◌, ◌<◌, ◌≤◌, leb, Some, None, Option, unwrap_or, refl, subst, inl, inr, arith}
 use native.Mathlib.Nat.{pow-succ'}
-use Rattle.std.proofs.lemmas.Bool.{leb-true, leb-false, le-leb, lt-leb, cases_lt}
-use Rattle.scan.specs.Live.{Dead, First, first_live}
+use Rattle.std.proofs.lemmas.Bool.{leb-true, leb-false, cases_lt}
+use Rattle.scan.specs.Live.{First, first_live}
 use Rattle.scan.specs.Powers.{log_up}
-use Rattle.scan.proofs.Runs.{first_is, first_unique}
+use Rattle.scan.proofs.Runs.{first_is}
 
 -- n ≤ 2 ^ e, and no smaller exponent does
 Least : ℕ → ℕ → Type 0

@@ -1,12 +1,12 @@
 -- What a cut comes to is what the definition of a step says.
-use Rattle.std.proofs.Common.{◌≡◌, ℕ, ◌<◌, ◌≤◌, Bool, true, false, eqb, leb, List, [], ◌∷◌, ◌++◌, Some, None, Option, sym, refl, ap, ◌∙◌, ap₂}
+use Rattle.std.proofs.Common.{◌≡◌, ◌<◌, ◌≤◌, Bool, true, false, leb, [], ◌∷◌, ◌++◌, Some, Option, sym, ap, ◌∙◌, ap₂}
 use Rattle.std.specs.Option.{option_to_list}
 use Rattle.std.proofs.lemmas.Bool.{eq-eqb, ne_eqb, le-leb, lt-leb}
 use Rattle.domain.specs.Maps.{listed}
 use Rattle.paving.specs.Sheet.{Task}
-use Rattle.paving.specs.Steps.{entries, without, left_undecided, put_back, kept_entries, entries_at, back_at}
+use Rattle.paving.specs.Steps.{entries, without, left_undecided, put_back, entries_at, back_at}
 use Rattle.paving.specs.declared.classes.Class.TheVariants.{Inside, Outside, Undecided}
-use Rattle.sheet.specs.Cuts.{cut_entries, cut_back, CutOf}
+use Rattle.sheet.specs.Cuts.{cut_back, CutOf}
 use Rattle.sheet.specs.declared.cut.Cut.{Cut}
 
 module _ {P : Type 0} (t : Task P) where

@@ -1,5 +1,5 @@
 -- A store that shows a state shows, after a turn, the state that the turn leaves.
-use Rattle.std.proofs.Common.{◌≡◌, ℕ, suc, ◌+◌, ◌-◌, ◌*◌, ◌^◌, ◌<◌, ◌≤◌, Bool, true, false, ltb, List, [], ◌∷◌, ◌++◌, length, take, drop, Ok, Err, Result, sym, refl, ap, ◌∙◌, subst, ap₂, arith}
+use Rattle.std.proofs.Common.{◌≡◌, ℕ, ◌-◌, ◌<◌, ◌≤◌, Bool, true, false, List, [], ◌∷◌, ◌++◌, length, Ok, Err, Result, sym, ap, ◌∙◌, subst, ap₂, arith}
 use Rattle.std.proofs.lemmas.List.{length-append, take-append-le, drop-append-le}
 use Rattle.std.proofs.lemmas.Bool.{lt-ltb, le-ltb}
 use Rattle.domain.specs.Laws.{Laws}
@@ -7,17 +7,15 @@ use Rattle.domain.specs.declared.refusal.Refusal.{Refusal}
 use Rattle.domain.specs.declared.refusal.Refusal.TheVariants.{NothingWaiting, RollFull}
 use Rattle.domain.proofs.Totals.{count_height}
 use Rattle.contractor.specs.Meaning.{meaning, Sound}
-use Rattle.paving.specs.Laws.{Limits}
-use Rattle.paving.specs.Sheet.{Task, State, Outcome, outcome, roll, gone, free}
+use Rattle.paving.specs.Sheet.{Task, State, outcome, free}
 use Rattle.paving.specs.Steps.{labelled, step_entries, step_back, stepped, step_on, step}
 use Rattle.paving.specs.Turns.{answered, points_of, turn}
 use Rattle.paving.specs.declared.answers.Answer.TheVariants.{Stepped}
 use Rattle.paving.specs.declared.turns.Turn.TheVariants.{Step}
 use Rattle.paving.proofs.Keeping.{Kept, labelled_length}
 use Rattle.paving.proofs.Truths.{limits_law}
-use Rattle.sheet.specs.Cuts.{cut_entries, cut_back, CutOf}
+use Rattle.sheet.specs.Cuts.{CutOf}
 use Rattle.sheet.specs.Piles.{waiting}
-use Rattle.sheet.specs.Rolls.{rolled}
 use Rattle.sheet.specs.Standing.{Shows, step_answer}
 use Rattle.sheet.specs.Stores.{Slack, Moved, Recorded}
 use Rattle.sheet.specs.declared.cut.Cut.{Cut}

@@ -1,12 +1,11 @@
 -- Records noted one after another.
-use Rattle.std.proofs.Common.{◌≡◌, ℕ, suc, ◌+◌, ◌<◌, ◌≤◌, List, [], ◌∷◌, ◌++◌, map, length, Some, None, Option, sym, refl, ap, ◌∙◌, subst, ap₂, arith}
+use Rattle.std.proofs.Common.{◌≡◌, ℕ, suc, ◌+◌, ◌≤◌, List, [], ◌∷◌, ◌++◌, length, Some, None, Option, sym, refl, ap, ◌∙◌, subst, ap₂, arith}
 use Rattle.std.proofs.lemmas.List.{append-nil, append_assoc, length-append, length-map, map-append}
 use Rattle.std.specs.Option.{option_to_list}
 use Rattle.domain.specs.Maps.{listed}
 use Rattle.domain.specs.declared.strip_slots.Strips.{Strips}
 use Rattle.paving.specs.Steps.{Entry, entries, labelled}
 use Rattle.paving.specs.declared.classes.Class.{Class}
-use Rattle.paving.specs.declared.records.Record.{Record}
 use Rattle.paving.proofs.Keeping.{labelled_length}
 use Rattle.paving.specs.declared.classes.Class.TheVariants.{Inside, Outside, Undecided}
 use Rattle.sheet.specs.Cuts.{cut_entries}

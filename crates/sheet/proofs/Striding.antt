@@ -8,7 +8,7 @@ use Rattle.paving.specs.Laws.{Accepts}
 use Rattle.paving.specs.Laws.Accepts.{none}
 use Rattle.paving.specs.Sheet.{Task, task, State, Outcome, outcome, opening}
 use Rattle.paving.specs.Steps.{step}
-use Rattle.paving.specs.Turns.{answered, run, turn, left_by, after_turns}
+use Rattle.paving.specs.Turns.{answered, run, turn, after_turns}
 use Rattle.paving.specs.declared.answers.Answer.{Answer}
 use Rattle.paving.specs.declared.answers.Answer.TheVariants.{Stepped, Ran as RanFor, Refused}
 use Rattle.paving.specs.declared.answers.Ran.{Ran}
@@ -17,7 +17,7 @@ use Rattle.paving.specs.declared.turns.Turn.TheVariants.{Step, Run}
 use Rattle.paving.proofs.Playing.{left_by_push}
 use Rattle.paving.proofs.Running.{run_none, run_refused, run_from, accepts_push, more_accepted}
 use Rattle.paving.proofs.SheetLaws.{sheet_laws}
-use Rattle.sheet.specs.Standing.{Shows, task_of, StandsAfter, SameTask, Played, Turned, step_answer}
+use Rattle.sheet.specs.Standing.{Shows, task_of, StandsAfter, SameTask, Turned}
 use Rattle.sheet.specs.declared.sheet.Sheet.{Sheet}
 
 module _ {P : Type 0} (t : Task P) (x : State P) where

@@ -1,5 +1,5 @@
 -- A call that does to the store what a turn does to the state.
-use Rattle.std.proofs.Common.{◌≡◌, ℕ, List, [], ◌∷◌, ◌++◌, sym, refl, subst}
+use Rattle.std.proofs.Common.{◌≡◌, [], ◌∷◌, ◌++◌, sym, refl, subst}
 use Rattle.domain.specs.Laws.{Laws}
 use Rattle.domain.specs.Maps.{Maps}
 use Rattle.contractor.specs.Meaning.{Meaning, Sound}
@@ -10,7 +10,7 @@ use Rattle.paving.specs.declared.turns.Turn.{Turn}
 use Rattle.paving.proofs.Keeping.{Kept, kept_after}
 use Rattle.paving.proofs.Playing.{left_by_push}
 use Rattle.paving.proofs.SheetLaws.{sheet_laws}
-use Rattle.sheet.specs.Standing.{Shows, task_of, StandsAfter, Played, Turned}
+use Rattle.sheet.specs.Standing.{Shows, task_of, Turned}
 use Rattle.sheet.specs.declared.sheet.Sheet.{Sheet}
 use Rattle.sheet.specs.declared.store.Store.{Store}
 

@@ -1,6 +1,6 @@
 use Rattle.std.proofs.Common.{arith}
 use Rattle.std.proofs.lemmas.Bool.Decides.{not_from_Decides}
-use Rattle.numerals.proofs.Digits.{Looks, looks, digit_in, short, digits_more, read_more, whole}
+use Rattle.numerals.proofs.Digits.{looks, digit_in, short, digits_more, read_more, whole}
 use Rattle.numerals.proofs.read.read_digits.Goals as goal
 use Rattle.numerals.proofs.read.read_digits.Goals.{then-digit-lt48-via-then-digit-lt48, then-digit-lt48-via-else-digit-lt48+then-digit-gt57}
 

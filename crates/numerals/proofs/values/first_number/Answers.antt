@@ -1,4 +1,4 @@
-use Rattle.std.proofs.Common.{ℤ, sym, refl, ap, ◌∙◌, subst, to_z-of_z, w32, SFits, rules}
+use Rattle.std.proofs.Common.{ℤ, sym, subst, to_z-of_z, w32, SFits, rules}
 use Rattle.numerals.proofs.Commas.{Headed, headed, first_of}
 use Rattle.numerals.proofs.Cuts.{never_cut}
 use Rattle.std.specs.Fmt.{signed_decimal}

@@ -1,4 +1,3 @@
-use Rattle.std.proofs.Common.{◌≡◌, length}
 use Rattle.sheet.specs.Standing.{means, task_of}
 use Rattle.plays.proofs.Gaming.{Midway}
 use Rattle.plays.proofs.plays.play.Given as goal

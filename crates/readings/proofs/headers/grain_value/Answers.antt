@@ -1,4 +1,4 @@
-use Rattle.std.proofs.Common.{◌≡◌, ◌≤◌, [], ◌∷◌, pos, sym, ap, ◌∙◌, inl, arith, to_z-of_z, w32, SFits, rules}
+use Rattle.std.proofs.Common.{[], ◌∷◌, pos, sym, ap, ◌∙◌, inl, to_z-of_z, w32, SFits, rules}
 use Rattle.readings.proofs.Making.{grain_made, no_grain}
 use Rattle.readings.proofs.headers.grain_value.Goals as goal
 

@@ -1,4 +1,4 @@
-use Rattle.std.proofs.Common.{sym, ◌∙◌, to_z-of_z, w32, SFits, rules}
+use Rattle.std.proofs.Common.{sym, ◌∙◌, to_z-of_z}
 use Rattle.readings.proofs.Making.{box_by}
 use Rattle.readings.proofs.pieces.box_of.Goals as goal
 

@@ -1,5 +1,5 @@
 use Rattle.std.proofs.Common.{ℕ, ◌++◌, Some, codes, decimal, subst}
-use Rattle.std.specs.Fmt.{HasWritten, DisplaysOnOk}
+use Rattle.std.specs.Fmt.{DisplaysOnOk}
 use Rattle.domain.proofs.shown.RefusalDisplay.fmt.Goals as goal
 
 pub returns-clause-writes : goal.returns-clause-writes

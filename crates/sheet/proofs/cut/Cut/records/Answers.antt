@@ -1,4 +1,4 @@
-use Rattle.std.proofs.Common.{arith, rules}
+use Rattle.std.proofs.Common.{arith}
 use Rattle.sheet.proofs.Storing.{cut_length, option_to_list_length}
 use Rattle.sheet.proofs.cut.Cut.records.Goals as goal
 

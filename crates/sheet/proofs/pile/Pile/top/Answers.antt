@@ -1,4 +1,4 @@
-use Rattle.std.proofs.Common.{ℕ, ◌-◌, reverse, take, sym, ap, ◌∙◌, arith}
+use Rattle.std.proofs.Common.{ℕ, ◌-◌, reverse, take, ap, arith}
 use Rattle.sheet.specs.Piles.{waiting}
 use Rattle.sheet.proofs.Piling.{reverse_top}
 use Rattle.sheet.proofs.pile.Pile.top.Goals as goal

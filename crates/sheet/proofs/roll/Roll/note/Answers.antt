@@ -1,4 +1,4 @@
-use Rattle.std.proofs.Common.{ℕ, ◌+◌, take, set, ap, ◌∙◌, arith}
+use Rattle.std.proofs.Common.{ℕ, ◌+◌, take, set, ap, ◌∙◌}
 use Rattle.sheet.specs.Rolls.{rolled, from}
 use Rattle.sheet.proofs.Rolling.{from_note}
 use Rattle.sheet.proofs.roll.Roll.note.Goals as goal

@@ -1,4 +1,4 @@
-use Rattle.std.proofs.Common.{◌≡◌, [], ◌∷◌, Some, None, sym, refl, ap, ◌∙◌, subst, ap₂, arith, rules}
+use Rattle.std.proofs.Common.{◌≡◌, [], ◌∷◌, Some, sym, ap, ◌∙◌, subst, arith}
 use Rattle.domain.specs.Maps.{Fits}
 use Rattle.sheet.specs.Standing.{means, task_of}
 use Rattle.sheet.proofs.Parting.{cut_made, small_left, large_left}

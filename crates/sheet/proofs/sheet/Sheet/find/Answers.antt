@@ -1,4 +1,4 @@
-use Rattle.std.proofs.Common.{sym, ◌∙◌, arith, rules}
+use Rattle.std.proofs.Common.{sym, ◌∙◌}
 use Rattle.paving.specs.declared.turns.Turn.TheVariants.{Find}
 use Rattle.sheet.specs.Standing.{means, task_of}
 use Rattle.sheet.proofs.Searching.{find_no_point, find_waits, find_on_roll}

@@ -1,4 +1,4 @@
-use Rattle.std.proofs.Common.{arith, rules}
+use Rattle.std.proofs.Common.{arith}
 use Rattle.sheet.specs.Standing.{means}
 use Rattle.sheet.proofs.Striding.{strode_none, strode_more, ran_all, ran_refused}
 use Rattle.sheet.proofs.sheet.Sheet.run.Goals as goal

@@ -1,4 +1,4 @@
-use Rattle.std.proofs.Common.{length, sym, refl, ap, ◌∙◌, subst, ap₂, arith, rules}
+use Rattle.std.proofs.Common.{length, ap, subst, arith, rules}
 use Rattle.paving.specs.Steps.{entries_at, back_at}
 use Rattle.paving.specs.declared.turns.Turn.TheVariants.{Step}
 use Rattle.sheet.specs.Cuts.{CutOf}

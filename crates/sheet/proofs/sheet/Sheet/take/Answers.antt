@@ -1,10 +1,10 @@
-use Rattle.std.proofs.Common.{Err, sym, ap, ◌∙◌, subst, arith, rules}
+use Rattle.std.proofs.Common.{Err, sym, ap, ◌∙◌, subst}
 use Rattle.paving.specs.declared.turns.Turn.TheVariants.{Take}
 use Rattle.domain.specs.declared.refusal.Refusal.TheVariants.{RollEmpty}
 use Rattle.sheet.specs.Counts.{plus}
 use Rattle.sheet.specs.Standing.{means, task_of, Turned, take_answer}
 use Rattle.sheet.proofs.Counting.{take_none, take_shows}
-use Rattle.sheet.proofs.Turning.{turned, with_store}
+use Rattle.sheet.proofs.Turning.{turned}
 use Rattle.sheet.proofs.sheet.Sheet.take.Goals as goal
 
 pub returns-in_default : goal.returns-in_default

@@ -1,4 +1,3 @@
-use Rattle.std.proofs.Common.{arith, rules}
 use Rattle.paving.specs.declared.turns.Turn.TheVariants.{Tally}
 use Rattle.sheet.specs.Standing.{means, task_of}
 use Rattle.sheet.proofs.Counting.{tally_shows}

@@ -1,4 +1,4 @@
-use Rattle.std.proofs.Common.{◌≡◌, ℕ, ◌-◌, ◌∷◌, sym, ap, ◌∙◌, arith, rules}
+use Rattle.std.proofs.Common.{◌≡◌, ℕ, ◌-◌, sym, ap, ◌∙◌, arith}
 use Rattle.paving.specs.Turns.{held}
 use Rattle.sheet.specs.Piles.{lowest}
 use Rattle.sheet.specs.Standing.{means, task_of}

@@ -1,4 +1,4 @@
-use Rattle.std.proofs.Common.{◌≡◌, Some, None, sym, ap, ◌∙◌, ap₂}
+use Rattle.std.proofs.Common.{Some, sym, ap, ◌∙◌, ap₂}
 use Rattle.dial.specs.Arcs.{span}
 use Rattle.dial.proofs.Smallest.{span_answer}
 use Rattle.dial.proofs.arc.piece.ArcDomain.span.Goals as goal
