@@ -6,7 +6,7 @@ use Rattle.std.proofs.lemmas.Int.{ints}
 use Rattle.std.proofs.lemmas.Bool.{cases_lt}
 use Rattle.scan.specs.declared.stretch.Stretch.{Stretch}
 use Rattle.leaves.specs.Rings.{square, distance, nearest, farthest}
-use Rattle.leaves.specs.ExtremesLemmas.{least_is, greatest_is}
+use Rattle.leaves.specs.ExtremeLaws.{least_is, greatest_is}
 
 pub distance_pos : (k i : ℕ) → ((i ≤ k) × (distance (pos k) i + i ≡ k)) ⊎ ((k ≤ i) × (distance (pos k) i + k ≡ i))
 unfolding distance

@@ -6,10 +6,10 @@ pub mod Readings
 pub mod Rings
 pub mod Worked
 pub mod Sweeps
-pub mod ConesLemmas
+pub mod ConeLaws
 pub mod Judging
 pub mod Products
 pub mod SignedExtremes
-pub mod RingsLemmas
+pub mod RingLaws
 pub mod Distances
-pub mod ExtremesLemmas
+pub mod ExtremeLaws

@@ -1,8 +1,8 @@
 // A reading of the plane: a ring or a cone.
 ghost use Rattle.leaves.specs.Readings.{reading_set, reading_kept, reading_dropped};
 ghost use Rattle.leaves.specs.declared.plane_reading.PlaneReading.TheVariants.{Ring, Cone};
-ghost use Rattle.leaves.specs.ConesLemmas.{cone_sound};
-ghost use Rattle.leaves.specs.RingsLemmas.{ring_sound};
+ghost use Rattle.leaves.specs.ConeLaws.{cone_sound};
+ghost use Rattle.leaves.specs.RingLaws.{ring_sound};
 
 use crate::cone::Cone;
 use crate::ring::Ring;

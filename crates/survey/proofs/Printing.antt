@@ -7,8 +7,8 @@ use Rattle.plane.specs.Lawful.{lawful as plane_lawful}
 use Rattle.contractor.specs.Meaning.{Sound}
 use Rattle.leaves.specs.declared.plane_reading.PlaneReading.{PlaneReading}
 use Rattle.leaves.specs.declared.plane_reading.PlaneReading.TheVariants.{Ring, Cone}
-use Rattle.leaves.specs.ConesLemmas.{cone_sound}
-use Rattle.leaves.specs.RingsLemmas.{ring_sound}
+use Rattle.leaves.specs.ConeLaws.{cone_sound}
+use Rattle.leaves.specs.RingLaws.{ring_sound}
 use Rattle.leaves.specs.Sweeps.{arc_sound}
 use Rattle.numerals.specs.Lists.{listed}
 use Rattle.readings.specs.Files.{Survey, on_plane, on_dial, HasForm, Comes, ring_line, arc_line}

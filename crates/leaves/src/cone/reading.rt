@@ -2,7 +2,7 @@
 ghost use Rattle.std.specs.Prelude.{◌≡◌};
 ghost use Rattle.leaves.specs.Cones.{keeps, sheds, cone_set, cone_kept, cone_dropped};
 ghost use Rattle.leaves.specs.Judged.{Short, live_rows};
-ghost use Rattle.leaves.specs.ConesLemmas.{cone_sound};
+ghost use Rattle.leaves.specs.ConeLaws.{cone_sound};
 
 use crate::cone::Cone;
 use crate::cone::runs::{kept_run, shed_run};

@@ -2,7 +2,7 @@
 ghost use Rattle.std.specs.Prelude.{◌≡◌};
 ghost use Rattle.leaves.specs.Judged.{Short, live_rows};
 ghost use Rattle.leaves.specs.Rings.{keeps, sheds, ring_set, ring_kept, ring_dropped};
-ghost use Rattle.leaves.specs.RingsLemmas.{ring_sound};
+ghost use Rattle.leaves.specs.RingLaws.{ring_sound};
 
 use crate::crossing::crossing;
 use crate::ring::Ring;

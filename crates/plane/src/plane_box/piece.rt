@@ -2,7 +2,7 @@
 ghost use Rattle.std.specs.Prelude.{◌≡◌, ◌<◌, IfOk};
 ghost use Rattle.domain.specs.Maps.{Fits, Members, Gathered, Smallest};
 ghost use Rattle.domain.specs.Refusals.{Given};
-ghost use Rattle.plane.specs.Boxes.{plane, holds as holds_of, span as SpanOf};
+ghost use Rattle.plane.specs.Boxes.{plane, holds as holds_of, span as span_of};
 ghost use Rattle.plane.specs.Promises.{Exact, HeldByEither};
 ghost use Rattle.plane.specs.Gathering.{CrossingOf};
 ghost use Rattle.plane.specs.Lawful;
@@ -85,7 +85,7 @@ impl Domain for PlaneBox {
         one: Option<PlaneBox>,
         other: Option<PlaneBox>,
     ) -> Result<Option<PlaneBox>, Refusal>
-        ensures value { Given result 1 (Fits plane self.now one × Fits plane self.now other) (λ s. s ≡ SpanOf self.now one other) }
+        ensures value { Given result 1 (Fits plane self.now one × Fits plane self.now other) (λ s. s ≡ span_of self.now one other) }
         ensures smallest { Given result 1 (Fits plane self.now one × Fits plane self.now other) (λ s. Smallest plane self.now (HeldByEither one other) s) }
     {
         if !self.holds_both(one, other) {

@@ -2,7 +2,7 @@
 ghost use Rattle.std.specs.Prelude.{◌≡◌, min, max, Decides};
 ghost use Rattle.domain.specs.Maps.{Fits};
 ghost use Rattle.plane.specs.declared.plane_box.PlaneBox.{PlaneBox as Boxed};
-ghost use Rattle.plane.specs.Boxes.{HasNumbers, span as SpanOf, crossed, plane};
+ghost use Rattle.plane.specs.Boxes.{HasNumbers, span as span_of, crossed, plane};
 ghost use Rattle.plane.specs.Gathering.{Short};
 
 use crate::plane_box::PlaneBox;
@@ -41,7 +41,7 @@ impl PlaneBox {
 
     // The smallest box that holds two, either of which may be nothing.
     pub(crate) fn enclosing(one: Option<PlaneBox>, other: Option<PlaneBox>) -> Option<PlaneBox>
-        ensures { (x : Boxed) → result ≡ SpanOf x one other }
+        ensures { (x : Boxed) → result ≡ span_of x one other }
     {
         let Some(first) = one else {
             return other;

@@ -1,5 +1,5 @@
 use Rattle.leaves.specs.Cones.{keeps}
-use Rattle.leaves.specs.ConesLemmas.{keeps_same}
+use Rattle.leaves.specs.ConeLaws.{keeps_same}
 use Rattle.leaves.specs.Judging.{run_same, run_short}
 use Rattle.leaves.proofs.cone.runs.kept_run.Goals as goal
 

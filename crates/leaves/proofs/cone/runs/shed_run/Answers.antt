@@ -1,5 +1,5 @@
 use Rattle.leaves.specs.Cones.{sheds}
-use Rattle.leaves.specs.ConesLemmas.{sheds_same}
+use Rattle.leaves.specs.ConeLaws.{sheds_same}
 use Rattle.leaves.specs.Judging.{run_same, run_short}
 use Rattle.leaves.proofs.cone.runs.shed_run.Goals as goal
 

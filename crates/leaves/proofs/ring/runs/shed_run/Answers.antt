@@ -2,7 +2,7 @@ use Rattle.std.proofs.Common.{arith}
 use Rattle.std.proofs.lemmas.Int.{to_z-of_z, ints}
 use Rattle.leaves.specs.Rings.{sheds}
 use Rattle.leaves.specs.Judging.{run_same, run_short}
-use Rattle.leaves.specs.RingsLemmas.{Set, sheds_same}
+use Rattle.leaves.specs.RingLaws.{Set, sheds_same}
 use Rattle.leaves.proofs.ring.runs.shed_run.Goals as goal
 
 pub returns : goal.returns

@@ -9,7 +9,7 @@ use Rattle.leaves.specs.Rings.{square, distance, nearest, farthest, in_ring, rin
 use Rattle.leaves.specs.declared.ring.Ring.{Ring}
 use Rattle.leaves.specs.declared.ring.runs.Reach.{Reach}
 use Rattle.leaves.specs.Distances.{square_le}
-use Rattle.leaves.specs.ExtremesLemmas.{least_bound, greatest_bound, least_one, greatest_one}
+use Rattle.leaves.specs.ExtremeLaws.{least_bound, greatest_bound, least_one, greatest_one}
 use Rattle.leaves.specs.Judging.{Sees, judged_sound}
 
 -- squares a and b of the radii, d of the distance along, o across, and m, M the squares of the least and the greatest across
