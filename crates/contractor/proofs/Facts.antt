@@ -1,6 +1,6 @@
 -- What makes the layers worth having.
 use Rattle.std.proofs.Common.{◌≡◌, ℕ, ◌+◌, ◌-◌, ◌<◌, ◌≤◌, Bool, true, cond, List, [], ◌∷◌, map, length, Decides, count_by, refl, ap, inl, inr, arith}
-use Rattle.std.specs.List.{AllByRecursion as All}
+use Rattle.std.specs.List.{AllByRecursion}
 use Rattle.std.specs.List.Sorted.{IsPermutation}
 use Rattle.std.proofs.ByRecursion.{All-map, all_shuffled}
 use Rattle.std.proofs.lemmas.List.{length-map}
@@ -22,7 +22,7 @@ module _ {X : Type 0} (p : X → Bool) where
   counted = sum_by-cons (λ y. cond (p y) 1 0)
 
   -- all are counted where they are as many as there are
-  all_counted : (xs : List X) → length xs ≤ count_by p xs → All (λ x. p x ≡ true) xs
+  all_counted : (xs : List X) → length xs ≤ count_by p xs → AllByRecursion (λ x. p x ≡ true) xs
   all_counted [] h = tt
   all_counted (x ∷ xs) h =
       let more = count_by-le-length p xs in
@@ -31,7 +31,7 @@ module _ {X : Type 0} (p : X → Bool) where
         | inr e ↦ absurd (omega (arith, more, counted x xs, ap {B = ℕ} (λ b. cond b 1 0) e))
       ]
 
-  counted_all : (xs : List X) → All (λ x. p x ≡ true) xs → length xs ≤ count_by p xs
+  counted_all : (xs : List X) → AllByRecursion (λ x. p x ≡ true) xs → length xs ≤ count_by p xs
   counted_all [] a = omega arith
   counted_all (x ∷ xs) a = omega (arith, counted x xs, ap {B = ℕ} (λ b. cond b 1 0) a.0, counted_all xs a.1)
 
@@ -50,7 +50,7 @@ module _ {X : Type 0} (p : X → Bool) where
   counted_any (x ∷ xs) (inr a) = omega (arith, counted x xs, counted_any xs a)
 
 module _ {P : Type 0} (d : Maps P) (l : Laws d) where
-  relaxed_all : (ms : List (Meaning P)) (n : ℕ) → Decides ((relaxed d 0 ms).set n) (All (λ m. m.set n ≡ true) ms)
+  relaxed_all : (ms : List (Meaning P)) (n : ℕ) → Decides ((relaxed d 0 ms).set n) (AllByRecursion (λ m. m.set n ≡ true) ms)
   relaxed_all ms n = (
     (λ e. all_counted (λ m. m.set n) ms (omega (arith, leb-true (length ms - 0) (holders n ms) e))),
     (λ a. le-leb (length ms - 0) (holders n ms) (omega (arith, counted_all (λ m. m.set n) ms a))),
@@ -74,7 +74,7 @@ module _ {P : Type 0} (d : Maps P) (l : Laws d) where
       }
 
 -- Fixed over Relaxed over the same readings in another order
-pub readings_order : {P R : Type 0} (d : Maps P) (means : R → Meaning P) (q : ℕ) (rs qs : List R) → q < length rs → All (λ r. Sound d (means r)) rs → IsPermutation rs qs → Rearranged d (fixed d (relaxed d q (map means rs))) (fixed d (relaxed d q (map means qs)))
+pub readings_order : {P R : Type 0} (d : Maps P) (means : R → Meaning P) (q : ℕ) (rs qs : List R) → q < length rs → AllByRecursion (λ r. Sound d (means r)) rs → IsPermutation rs qs → Rearranged d (fixed d (relaxed d q (map means rs))) (fixed d (relaxed d q (map means qs)))
 readings_order d means q rs qs few all h =
     fixed_of
     (relaxed_of (let f : q < length (map means rs) = omega (arith, length-map rs means) in f) (All-map (Sound d) means rs all)

@@ -1,7 +1,7 @@
 -- Rearranged contractors have the same maps.
 use Rattle.std.proofs.Common.{◌≡◌, ℕ, ◌+◌, ◌-◌, ◌<◌, true, false, ltb, List, [], ◌∷◌, ◌++◌, map, length, Some, None, Option, sym, refl, ap, ◌∙◌, subst, ap₂, arith}
 use mathlib.Core.Path.{fun_ext}
-use Rattle.std.specs.List.{AllByRecursion as All}
+use Rattle.std.specs.List.{AllByRecursion}
 use Rattle.std.specs.List.Sorted.{IsPermutation}
 use Rattle.std.proofs.lemmas.List.{map-append, length-append}
 use Rattle.std.proofs.lemmas.List.Sorted.{IsPermutation-refl, IsPermutation-cons, IsPermutation-swap, IsPermutation-trans}
@@ -87,7 +87,7 @@ module _ {P : Type 0} (d : Maps P) (l : Laws d) where
   gathered_order x os ps most k h i m =
       ap₂ (λ (n : ℕ) (g : Option P). elim (ltb most n) [ true ↦ None | false ↦ g ]) m.nones (l.gather_order x (given os) (given ps) k h i m.pieces)
 
-  relaxed_alike : (q : ℕ) (ms ns : List (Meaning P)) → q < length ms → All (Sound d) ms → Matches ms ns → Alike (relaxed d q ms) (relaxed d q ns)
+  relaxed_alike : (q : ℕ) (ms ns : List (Meaning P)) → q < length ms → AllByRecursion (Sound d) ms → Matches ms ns → Alike (relaxed d q ms) (relaxed d q ns)
   relaxed_alike q ms ns few all m =
       record {
         keep = λ x.

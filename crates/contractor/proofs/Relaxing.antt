@@ -1,6 +1,6 @@
 -- Relaxed keeps the laws: members that hold a point, and members that give nothing, counted.
 use Rattle.std.proofs.Common.{◌≡◌, ℕ, ◌+◌, ◌-◌, ◌<◌, ◌≤◌, Bool, true, false, cond, not, ltb, List, [], ◌∷◌, map, length, Some, None, count_by, Option, sym, refl, ap, subst, arith}
-use Rattle.std.specs.List.{AllByRecursion as All}
+use Rattle.std.specs.List.{AllByRecursion}
 use Rattle.std.proofs.lemmas.List.{length-map}
 use Rattle.std.proofs.lemmas.List.Sums.{sum_by-cons, count_by-le-length}
 use Rattle.std.proofs.lemmas.Bool.{leb-true, leb-false, le-ltb, lt-ltb, not-true}
@@ -34,7 +34,7 @@ module _ {P : Type 0} (test : Meaning P → Bool) (side : Meaning P → Option P
   nothing_more false None os k h e = omega arith
   nothing_more false (Some p) os k h e = omega arith
 
-  nothing_counted : (Q : Meaning P → Type 0) → ((m : Meaning P) → Q m → test m ≡ true → side m ≡ None) → (ms : List (Meaning P)) → All Q ms → count_by test ms ≤ nothings (map side ms)
+  nothing_counted : (Q : Meaning P → Type 0) → ((m : Meaning P) → Q m → test m ≡ true → side m ≡ None) → (ms : List (Meaning P)) → AllByRecursion Q ms → count_by test ms ≤ nothings (map side ms)
   nothing_counted Q h [] a = omega arith
   nothing_counted Q h (m ∷ ms) a =
       let more = nothing_more (test m) (side m) (map side ms) (count_by test ms) (h m a.0) (nothing_counted Q h ms a.1) in
@@ -49,7 +49,7 @@ module _ {P : Type 0} (d : Maps P) (test : Meaning P → Bool) (side : Meaning P
   held_more false None os k h e = omega arith
   held_more false (Some p) os k h e = omega (arith, sum_by-cons (λ q. cond (d.holds q n) 1 0) p (given os))
 
-  held_counted : (Q : Meaning P → Type 0) → ((m : Meaning P) → Q m → test m ≡ true → Holds d (side m) n) → (ms : List (Meaning P)) → All Q ms → count_by test ms ≤ times d n (given (map side ms))
+  held_counted : (Q : Meaning P → Type 0) → ((m : Meaning P) → Q m → test m ≡ true → Holds d (side m) n) → (ms : List (Meaning P)) → AllByRecursion Q ms → count_by test ms ≤ times d n (given (map side ms))
   held_counted Q h [] a = omega arith
   held_counted Q h (m ∷ ms) a =
       let more = held_more (test m) (side m) (map side ms) (count_by test ms) (h m a.0) (held_counted Q h ms a.1) in
@@ -60,7 +60,7 @@ module _ {P : Type 0} (d : Maps P) (x : P) (side : Meaning P → Option P) where
   inside_more None os f i = i
   inside_more (Some p) os f i = (f, i)
 
-  pub inside_given : (Q : Meaning P → Type 0) → ((m : Meaning P) → Q m → Fits d x (side m)) → (ms : List (Meaning P)) → All Q ms → Inside d x (given (map side ms))
+  pub inside_given : (Q : Meaning P → Type 0) → ((m : Meaning P) → Q m → Fits d x (side m)) → (ms : List (Meaning P)) → AllByRecursion Q ms → Inside d x (given (map side ms))
   inside_given Q h [] a = tt
   inside_given Q h (m ∷ ms) a = inside_more (side m) (map side ms) (h m a.0) (inside_given Q h ms a.1)
 
@@ -81,7 +81,7 @@ module _ {P : Type 0} (d : Maps P) (l : Laws d) (x : P) (os : List (Option P)) (
   gathered_none e =
       subst (λ b. (elim b [ true ↦ None | false ↦ d.gather x (given os) k ]) ≡ None) (sym (lt-ltb most (nothings os) e)) refl
 
-module _ {P : Type 0} (d : Maps P) (l : Laws d) (q : ℕ) (ms : List (Meaning P)) (few : q < length ms) (all : All (Sound d) ms) where
+module _ {P : Type 0} (d : Maps P) (l : Laws d) (q : ℕ) (ms : List (Meaning P)) (few : q < length ms) (all : AllByRecursion (Sound d) ms) where
   keep_inside : (x : P) → Inside d x (given (all_kept ms x))
   keep_inside x = inside_given d x (λ m. m.keep x) (Sound d) (λ m s. s.keep_fits x) ms all
 

@@ -1,6 +1,6 @@
 -- When two contractors are rearranged: the same maps, or the same layer over rearranged parts.
 use Rattle.std.specs.Prelude.{◌≡◌, ℕ, ◌<◌, List, [], ◌∷◌, ◌++◌, length}
-use Rattle.std.specs.List.{AllByRecursion as All}
+use Rattle.std.specs.List.{AllByRecursion}
 use Rattle.domain.specs.Maps.{Maps}
 use Rattle.contractor.specs.Layers.{both, either, opposite, relaxed, fixed}
 use Rattle.contractor.specs.Meaning.{Meaning, Sound}
@@ -18,7 +18,7 @@ mutual
     not_of : {a b : Meaning P} → Rearranged d a b → Rearranged d (opposite a) (opposite b)
     fixed_of : {a b : Meaning P} → Rearranged d a b → Rearranged d (fixed d a) (fixed d b)
     -- one q; the members are contractors, and pair off one to one, in any order
-    relaxed_of : {q : ℕ} {ms ns : List (Meaning P)} → q < length ms → All (Sound d) ms → All (Sound d) ns → Paired d ms ns → Rearranged d (relaxed d q ms) (relaxed d q ns)
+    relaxed_of : {q : ℕ} {ms ns : List (Meaning P)} → q < length ms → AllByRecursion (Sound d) ms → AllByRecursion (Sound d) ns → Paired d ms ns → Rearranged d (relaxed d q ms) (relaxed d q ns)
 
   -- the first member is rearranged with one of the others, wherever that stands, and the rest pair off
   pub data Paired {P : Type 0} (d : Maps P) : List (Meaning P) → List (Meaning P) → Type 0 where

@@ -1,6 +1,6 @@
 -- A list of numbers, and the sub-pieces that they name.
 use Rattle.std.proofs.Common.{◌≡◌, ℕ, ◌<◌, ◌≤◌, true, List, [], ◌∷◌, map, length, get_or, take, Some, None, Option, refl, subst, ap₂, arith, MatchOption}
-use Rattle.std.specs.List.{AllByRecursion as All}
+use Rattle.std.specs.List.{AllByRecursion}
 use Rattle.std.proofs.ByRecursion.{All-get_or}
 use Rattle.std.proofs.lemmas.List.{take_all}
 use Rattle.domain.specs.Maps.{Maps, joined, pieces, Inside, Member, Members}
@@ -39,7 +39,7 @@ module _ {P : Type 0} (d : Maps P) (x : P) where
   joined_members (Some p) None f g = g
   joined_members (Some p) (Some ps) f g = (f, g)
 
-  pub members_all : (ns : List ℕ) → All (Member d x) ns → Members d x ns
+  pub members_all : (ns : List ℕ) → AllByRecursion (Member d x) ns → Members d x ns
   members_all [] a = tt
   members_all (n ∷ ns) a = joined_members (d.piece n) (pieces d ns) a.0 (members_all ns a.1)
 
@@ -48,7 +48,7 @@ module _ {P : Type 0} (d : Maps P) (x : P) where
   members_first (Some p) None f = absurd f
   members_first (Some p) (Some ps) f = (f.0, f.1)
 
-  pub all_members : (ns : List ℕ) → Members d x ns → All (Member d x) ns
+  pub all_members : (ns : List ℕ) → Members d x ns → AllByRecursion (Member d x) ns
   all_members [] m = tt
   all_members (n ∷ ns) m = let r = members_first (d.piece n) (pieces d ns) m in (r.0, all_members ns r.1)
 
@@ -64,5 +64,5 @@ module _ {P : Type 0} (d : Maps P) (x : P) where
   pub members_refused : (ns : List ℕ) (i : ℕ) → i < length ns → (Member d x (get_or ns i 0) → ⊥) → Members d x ns → ⊥
   members_refused ns i h f m = f (All-get_or (Member d x) ns i 0 h (all_members ns m))
 
-  pub members_found : (ns : List ℕ) (i : ℕ) → length ns ≤ i → All (Member d x) (take i ns) → Members d x ns
-  members_found ns i h a = members_all ns (subst (All (Member d x)) (take_all i ns h) a)
+  pub members_found : (ns : List ℕ) (i : ℕ) → length ns ≤ i → AllByRecursion (Member d x) (take i ns) → Members d x ns
+  members_found ns i h a = members_all ns (subst (AllByRecursion (Member d x)) (take_all i ns h) a)

@@ -1,6 +1,6 @@
 -- What follows from the laws for every domain: sums over parts, and what a count tells.
 use Rattle.std.proofs.Common.{◌≡◌, ℕ, zero, suc, ◌+◌, ◌^◌, ◌<◌, ◌≤◌, Bool, true, false, cond, List, [], ◌∷◌, ◌++◌, length, sym, refl, ◌∙◌, inl, inr, arith}
-use Rattle.std.specs.List.{AllByRecursion as All}
+use Rattle.std.specs.List.{AllByRecursion}
 use Rattle.std.proofs.lemmas.List.Sums.{sum_by-cons, sum_by-append}
 use Rattle.std.proofs.lemmas.Bool.{cases_lt, cases_Bool}
 use Rattle.std.proofs.lemmas.Nat.{pow_pos}
@@ -33,14 +33,14 @@ module _ {P : Type 0} (d : Maps P) where
   times_single n p = omega (arith, times_cons n p [])
 
   -- what holds of every point that some listed piece holds
-  pub all_by_times : (Q : ℕ → Type 0) (ps : List P) → ((n : ℕ) → 0 < times d n ps → Q n) → All (λ p. (n : ℕ) → d.holds p n ≡ true → Q n) ps
+  pub all_by_times : (Q : ℕ → Type 0) (ps : List P) → ((n : ℕ) → 0 < times d n ps → Q n) → AllByRecursion (λ p. (n : ℕ) → d.holds p n ≡ true → Q n) ps
   all_by_times Q [] f = tt
   all_by_times Q (p ∷ ps) f = (
     (λ n h. f n (omega (arith, times_cons n p ps, bit_true (d.holds p n) h))),
     all_by_times Q ps (λ n h. f n (omega (arith, times_cons n p ps))),
   )
 
-  pub times_by_all : (Q : ℕ → Type 0) (ps : List P) → All (λ p. (n : ℕ) → d.holds p n ≡ true → Q n) ps → (n : ℕ) → 0 < times d n ps → Q n
+  pub times_by_all : (Q : ℕ → Type 0) (ps : List P) → AllByRecursion (λ p. (n : ℕ) → d.holds p n ≡ true → Q n) ps → (n : ℕ) → 0 < times d n ps → Q n
   times_by_all Q [] a n h = absurd (omega arith)
   times_by_all Q (p ∷ ps) a n h =
       elim (cases_Bool (d.holds p n)) [

@@ -1,6 +1,6 @@
 -- The maps of a domain over its pieces P. A point is known by its number.
 use Rattle.std.specs.Prelude.{◌≡◌, ℕ, ◌^◌, Bool, true, List, [], ◌∷◌, ◌++◌, IfSome, Some, None, sum_by, count_by, Option, MatchOption}
-use Rattle.std.specs.List.{AllByRecursion as All}
+use Rattle.std.specs.List.{AllByRecursion}
 use Rattle.std.specs.Option.{option_to_list}
 use Rattle.scan.specs.Count.{bit}
 use Rattle.domain.specs.declared.strip_slots.Strips.{Strips}
@@ -55,7 +55,7 @@ module _ {P : Type 0} (d : Maps P) where
 
   -- all of the listed pieces are sub-pieces of x
   abbrev pub Inside : P → List P → Type 0
-  Inside x ps = All (λ p. d.within p x ≡ true) ps
+  Inside x ps = AllByRecursion (λ p. d.within p x ≡ true) ps
 
   -- nothing, or a sub-piece of x
   abbrev pub Fits : P → Option P → Type 0

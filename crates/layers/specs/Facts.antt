@@ -1,6 +1,6 @@
 -- What makes the layers worth having.
 use Rattle.std.specs.Prelude.{◌≡◌, ℕ, ◌-◌, ◌<◌, true, List, length, Decides}
-use Rattle.std.specs.List.{AllByRecursion as All}
+use Rattle.std.specs.List.{AllByRecursion}
 use Rattle.domain.specs.Maps.{Maps}
 use Rattle.contractor.specs.Layers.{after, Settles, relaxed, fixed}
 use Rattle.contractor.specs.Meaning.{Meaning}
@@ -15,5 +15,5 @@ pub record Settled {P : Type 0} (d : Maps P) (m : Meaning P) : Type 0 where
 
 -- With no liar, the points that all members hold; with all but one, those that some member holds.
 pub record Extremes {P : Type 0} (d : Maps P) (ms : List (Meaning P)) : Type 0 where
-  pub intersection : (n : ℕ) → Decides ((relaxed d 0 ms).set n) (All (λ m. m.set n ≡ true) ms)
+  pub intersection : (n : ℕ) → Decides ((relaxed d 0 ms).set n) (AllByRecursion (λ m. m.set n ≡ true) ms)
   pub union : (n : ℕ) → 0 < length ms → Decides ((relaxed d (length ms - 1) ms).set n) (Any (λ m. m.set n ≡ true) ms)

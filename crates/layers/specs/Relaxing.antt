@@ -1,7 +1,7 @@
 -- Relaxed over a panel: from the members' numbers to what its meaning gives.
 use Rattle.std.specs.Prelude.{◌≡◌, ℕ, ◌-◌, ◌≤◌, Bool, true, false, List, map, length, take, Some, Option, MatchOption, nat_lt, refl}
 use Rattle.std.proofs.Common.{arith, sym, ap, subst, ◌∙◌}
-use Rattle.std.specs.List.{AllByRecursion as All}
+use Rattle.std.specs.List.{AllByRecursion}
 use Rattle.std.proofs.lemmas.List.{length-map}
 use Rattle.std.proofs.lemmas.Bool.{ltb-true}
 use Rattle.domain.specs.Laws.{Laws}
@@ -27,11 +27,11 @@ module _ {P : Type 0} (d : Maps P) (l : Laws d) where
         shed_one = λ x n c h e. refl;
       }
 
-  over_sound : (q : ℕ) (ms : List (Meaning P)) (b : Bool) → nat_lt q (length ms) ≡ b → All (Sound d) ms → Sound d (elim b [ true ↦ relaxed d q ms | false ↦ everything ])
+  over_sound : (q : ℕ) (ms : List (Meaning P)) (b : Bool) → nat_lt q (length ms) ≡ b → AllByRecursion (Sound d) ms → Sound d (elim b [ true ↦ relaxed d q ms | false ↦ everything ])
   over_sound q ms true e all = relaxed_sound d l q ms (ltb-true q (length ms) e) all
   over_sound q ms false e all = everything_sound
 
-  pub relaxed_over_sound : (q : ℕ) (ms : List (Meaning P)) → All (Sound d) ms → Sound d (relaxed_over d q ms)
+  pub relaxed_over_sound : (q : ℕ) (ms : List (Meaning P)) → AllByRecursion (Sound d) ms → Sound d (relaxed_over d q ms)
   relaxed_over_sound q ms = over_sound q ms (nat_lt q (length ms)) refl
 
 module _ {P : Type 0} (d : Maps P) (l : Laws d) (x : P) (ps : List P) (n : ℕ) (buffer : List ℕ) (f : Numbered d ps n buffer) where
@@ -62,7 +62,7 @@ module _ {P : Type 0} (d : Maps P) (l : Laws d) (x : P) (side : Meaning P → Op
   filled_fits h = omega (arith, f.size, filled_few (length ms) refl)
 
   -- what sound members give are sub-pieces
-  pub filled_members : ((m : Meaning P) → Sound d m → Fits d x (side m)) → All (Sound d) ms → Members d x (take n buffer)
+  pub filled_members : ((m : Meaning P) → Sound d m → Fits d x (side m)) → AllByRecursion (Sound d) ms → Members d x (take n buffer)
   filled_members fit all = numbered_members d l x (given (map side ms)) n buffer f (inside_given d x side (Sound d) fit ms all)
 
 pub extremes : {P : Type 0} (d : Maps P) → Laws d → (ms : List (Meaning P)) → Extremes d ms

@@ -1,6 +1,6 @@
 -- What a listing is, and what it promises.
 use Rattle.std.specs.Prelude.{◌≡◌, ℕ, ◌+◌, ◌*◌, ◌<◌, ◌≤◌, Bool, ◌&&◌, List, [], ◌++◌, length, slice_index_or}
-use Rattle.std.specs.List.{AllByRecursion as All}
+use Rattle.std.specs.List.{AllByRecursion}
 use Rattle.scan.specs.Count.{bit}
 use Rattle.domain.specs.Maps.{Parts, times}
 use Rattle.paving.specs.Laws.{AllOf, NoneOf, Small, points_in}
@@ -27,10 +27,10 @@ pub record Ground {P : Type 0} (t : Task P) (set : ℕ → Bool) (shown : P → 
   -- each point of the start lies in exactly one of the pieces, and no other point in any
   pub shared : Parts t.maps t.start (pieces records)
   -- every point of an inside piece is of the set, and none of an outside piece is
-  pub inside_all : All (AllOf t.maps set) (of_class Inside records)
-  pub outside_none : All (NoneOf t.maps set) (of_class Outside records)
+  pub inside_all : AllByRecursion (AllOf t.maps set) (of_class Inside records)
+  pub outside_none : AllByRecursion (NoneOf t.maps set) (of_class Outside records)
   -- an undecided piece has more than one point, and a size of at most the grain; at grain 1 there is none
-  pub undecided_small : All (Small t) (of_class Undecided records)
+  pub undecided_small : AllByRecursion (Small t) (of_class Undecided records)
   pub decided : t.grain ≡ 1 → of_class Undecided records ≡ []
   -- at grain 1 the inside pieces hold exactly the start's points of the set
   pub exact : t.grain ≡ 1 → (n : ℕ) → times t.maps n (of_class Inside records) ≡ bit (t.maps.holds t.start n && set n)

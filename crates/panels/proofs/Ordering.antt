@@ -1,6 +1,6 @@
 -- The same readings in another order are rearranged panels.
 use Rattle.std.proofs.Common.{◌≡◌, ℕ, ◌<◌, ◌≤◌, List, map, length, sym, subst₂, arith}
-use Rattle.std.specs.List.{AllByRecursion as All}
+use Rattle.std.specs.List.{AllByRecursion}
 use Rattle.std.specs.List.Sorted.{IsPermutation}
 use Rattle.std.proofs.lemmas.List.{length-map}
 use Rattle.std.proofs.lemmas.List.Sorted.{length_permutation}
@@ -17,7 +17,7 @@ use Rattle.panels.specs.Panels.{readers, relaxed_over}
 use Rattle.panels.specs.Readings.{readers_all, all_readings}
 use Rattle.panels.proofs.Overs.{over_relaxed}
 
-module _ {P : Type 0} (d : Maps P) (l : Laws d) (ms ns : List (Meaning P)) (same : length ms ≡ length ns) (all : All (Sound d) ms) (more : All (Sound d) ns) (pairs : Paired d ms ns) where
+module _ {P : Type 0} (d : Maps P) (l : Laws d) (ms ns : List (Meaning P)) (same : length ms ≡ length ns) (all : AllByRecursion (Sound d) ms) (more : AllByRecursion (Sound d) ns) (pairs : Paired d ms ns) where
   module _ (q : ℕ) (few : q < length ms) where
     rearranged : Rearranged d (relaxed d q ms) (relaxed d q ns)
     rearranged = relaxed_of few all more pairs

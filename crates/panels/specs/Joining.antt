@@ -1,7 +1,7 @@
 -- Two panels joined.
 use Rattle.std.specs.Prelude.{◌≡◌, ℕ, ◌+◌, ◌-◌, ◌<◌, ◌≤◌, min, List, ◌++◌, length, Ok, Err, Result, refl}
 use Rattle.std.proofs.Common.{arith, sym, ap, subst, ◌∙◌}
-use Rattle.std.specs.List.{HoldsAt, AllByRecursion as All}
+use Rattle.std.specs.List.{HoldsAt, AllByRecursion}
 use Rattle.std.proofs.ByRecursion.{All-append, All-take}
 use Rattle.std.proofs.lemmas.List.{length-append, length-take, take_all, get_or-take, get_or_append_left, get_or-append_right}
 use Rattle.domain.specs.declared.refusal.Refusal.{Refusal}
@@ -19,7 +19,7 @@ module _ {P : Type 0} (ms ns : List (Meaning P)) where
   pub joined_few : length (joined ms ns) ≤ 16
   joined_few = omega (arith, length_joined)
 
-  pub joined_sound : (Q : Meaning P → Type 0) → All Q ms → All Q ns → All Q (joined ms ns)
+  pub joined_sound : (Q : Meaning P → Type 0) → AllByRecursion Q ms → AllByRecursion Q ns → AllByRecursion Q (joined ms ns)
   joined_sound Q a b = All-take Q 16 (ms ++ ns) (All-append Q ms ns a b)
 
   module _ (Q : Meaning P → Type 0) (k : ℕ) (h : k < length (joined ms ns)) where

@@ -1,7 +1,7 @@
 -- Readings as the members of a panel.
 use Rattle.std.specs.Prelude.{◌≡◌, ℕ, ◌<◌, ◌≤◌, min, List, [], ◌∷◌, map, length, take, Some, None, Option, slice_index_or}
 use Rattle.std.proofs.Common.{arith, sym, ap, ◌∙◌}
-use Rattle.std.specs.List.{HoldsAt, AllByRecursion as All, slice_get}
+use Rattle.std.specs.List.{HoldsAt, AllByRecursion, slice_get}
 use Rattle.std.proofs.lemmas.List.{length-map, length-take, get_or-map, get_or-take, take_all}
 use Rattle.std.proofs.lemmas.Option.{slice_get-get_or}
 use Rattle.contractor.specs.Meaning.{Meaning}
@@ -37,6 +37,6 @@ module _ {P R : Type 0} (each : R → Meaning P) (rs : List R) where
         ∙ ap side (sym (get_or-map each (take 16 rs) i r m below))
 
 -- what holds of what each reading means holds of all members
-pub all_readings : {X Y : Type 0} (Q : Y → Type 0) (f : X → Y) → ((x : X) → Q (f x)) → (xs : List X) → All Q (map f xs)
+pub all_readings : {X Y : Type 0} (Q : Y → Type 0) (f : X → Y) → ((x : X) → Q (f x)) → (xs : List X) → AllByRecursion Q (map f xs)
 all_readings Q f h [] = tt
 all_readings Q f h (x ∷ xs) = (h x, all_readings Q f h xs)

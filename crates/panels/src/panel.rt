@@ -1,6 +1,6 @@
 // A panel: so many contractors over one domain, known by their numbers from 0 on.
 ghost use Rattle.std.specs.Prelude.{◌≡◌, ◌<◌, ◌≤◌, List, length};
-ghost use Rattle.std.specs.List.{AllByRecursion as All};
+ghost use Rattle.std.specs.List.{AllByRecursion};
 ghost use Rattle.domain.specs.Refusals.{Given};
 ghost use Rattle.contractor.specs.Meaning.{Meaning, Sound};
 ghost use Rattle.panels.specs.Panels.{Kept, Shed};
@@ -26,7 +26,7 @@ pub trait Panel {
     fn shed(&self, member: usize, piece: &Self::Piece) -> Result<Option<Self::Piece>, Refusal>
         ensures { Given result 9 (member < length (members self.now)) (λ o. Shed (members self.now) member piece.now o) };
 
-    ghost sound: { (p : Self) → All (Sound Self.Piece.Domain.maps) (members p) };
+    ghost sound: { (p : Self) → AllByRecursion (Sound Self.Piece.Domain.maps) (members p) };
 
     ghost few: { (p : Self) → length (members p) ≤ 16 };
 }

@@ -1,6 +1,6 @@
 -- What a sheet keeps: the start shared out, records that are true, a steep pile, steps left, labels in order.
 use Rattle.std.proofs.Common.{◌≡◌, ℕ, zero, suc, ◌+◌, ◌*◌, ◌<◌, ◌≤◌, Bool, true, List, [], ◌∷◌, ◌++◌, length, get_or, sym, refl, ap, ◌∙◌, subst, arith}
-use Rattle.std.specs.List.{AllByRecursion as All}
+use Rattle.std.specs.List.{AllByRecursion}
 use Rattle.std.proofs.ByRecursion.{All-append}
 use Rattle.std.proofs.lemmas.List.{length-append, length-drop, map-append}
 use Rattle.std.proofs.lemmas.List.Sums.{sum_by-cons, sum_by-append}
@@ -26,7 +26,7 @@ pub record Kept {P : Type 0} (t : Task P) (set : ℕ → Bool) (s : State P) : T
   pub shares : (n : ℕ) → times t.maps n (pieces s.made) + times t.maps n s.waiting ≡ bit (t.maps.holds t.start n)
   pub made_within : Within t.maps t.start (pieces s.made)
   pub waiting_within : Within t.maps t.start s.waiting
-  pub true_of : All (λ r. Says t set r.class r.piece) s.made
+  pub true_of : AllByRecursion (λ r. Says t set r.class r.piece) s.made
   pub steep : Steep t.maps s.waiting
   pub steps_left : 2 * total t.maps s.waiting + s.steps + 1 ≤ 2 * t.maps.count t.start + length s.waiting
   pub numbered : Numbered 0 s.made
@@ -46,7 +46,7 @@ pub labelled_length : {P : Type 0} (n : ℕ) (es : List (Entry P)) → length (l
 labelled_length n [] = refl
 labelled_length n (e ∷ es) = ap suc (labelled_length (suc n) es)
 
-labelled_says : {P : Type 0} (t : Task P) (set : ℕ → Bool) (n : ℕ) (es : List (Entry P)) → All (λ e. Says t set e.class e.piece) es → All (λ r. Says t set r.class r.piece) (labelled n es)
+labelled_says : {P : Type 0} (t : Task P) (set : ℕ → Bool) (n : ℕ) (es : List (Entry P)) → AllByRecursion (λ e. Says t set e.class e.piece) es → AllByRecursion (λ r. Says t set r.class r.piece) (labelled n es)
 labelled_says t set n [] a = tt
 labelled_says t set n (e ∷ es) a = (a.0, labelled_says t set (suc n) es a.1)
 

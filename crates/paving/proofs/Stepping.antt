@@ -1,6 +1,6 @@
 -- What a step makes of a piece: parts that share it out, true of the set, few and lower.
 use Rattle.std.proofs.Common.{◌≡◌, ℕ, ◌+◌, ◌*◌, ◌<◌, ◌≤◌, Bool, true, false, eqb, leb, List, [], ◌∷◌, ◌++◌, map, length, Some, None, Option, sym, refl, ap, ◌∙◌, subst, ap₂, inl, inr, arith}
-use Rattle.std.specs.List.{AllByRecursion as All}
+use Rattle.std.specs.List.{AllByRecursion}
 use Rattle.std.proofs.ByRecursion.{All-append, All-map, All-weaker}
 use Rattle.std.proofs.lemmas.List.{length-append, length-map, map-append}
 use Rattle.std.proofs.lemmas.List.Sums.{sum_by-cons}
@@ -36,7 +36,7 @@ pub record Makes {P : Type 0} (t : Task P) (set : ℕ → Bool) (x : P) (es : Li
   pub shares : (n : ℕ) → times t.maps n (entry_pieces es) + times t.maps n back ≡ bit (t.maps.holds x n)
   pub records_within : Within t.maps x (entry_pieces es)
   pub back_within : Within t.maps x back
-  pub true_of : All (λ e. Says t set e.class e.piece) es
+  pub true_of : AllByRecursion (λ e. Says t set e.class e.piece) es
   pub few : length es ≤ 9
   pub lower : (xs : List P) → Steep t.maps (x ∷ xs) → Steep t.maps (back ++ xs)
   pub less : 2 * total t.maps back + 2 ≤ 2 * t.maps.count x + length back
@@ -90,7 +90,7 @@ module _ {P : Type 0} (t : Task P) (l : Laws t.maps) where
   rest_shares r u b (small e f) n = omega (arith, times_single t.maps n r)
   rest_shares r u b (split e) n = omega (arith, l.halved r e n)
 
-  rest_decided : (set : ℕ → Bool) (r : P) (u b : List P) → RestOf t r u b → All (Says t set Undecided) u
+  rest_decided : (set : ℕ → Bool) (r : P) (u b : List P) → RestOf t r u b → AllByRecursion (Says t set Undecided) u
   rest_decided set r u b (single e) = tt
   rest_decided set r u b (small e f) = ((e, f), tt)
   rest_decided set r u b (split e) = tt
@@ -145,7 +145,7 @@ module _ {P : Type 0} (t : Task P) (l : Laws t.maps) where
     without_lower None f xs h k = k
     without_lower (Some r) f xs h k = rest_lower r (left_undecided t (Some r)) (put_back t (Some r)) (rest_of r) xs (omega (arith, l.height_within r p f)) k
 
-  undecided_large : (set : ℕ → Bool) (o : Option P) → All (Says t set Undecided) (left_undecided t o)
+  undecided_large : (set : ℕ → Bool) (o : Option P) → AllByRecursion (Says t set Undecided) (left_undecided t o)
   undecided_large set None = tt
   undecided_large set (Some r) = rest_decided set r (left_undecided t (Some r)) (put_back t (Some r)) (rest_of r)
 
@@ -205,7 +205,7 @@ module _ {P : Type 0} (t : Task P) (l : Laws t.maps) (set : ℕ → Bool) (s : S
             rest_less t l x r (left_undecided t (Some r)) (put_back t (Some r)) more fewer (rest_of t l r)
       ]
 
-  says_entries : (c : Class) (ps : List P) → All (Says t set c) ps → All (λ e. Says t set e.class e.piece) (entries c ps)
+  says_entries : (c : Class) (ps : List P) → AllByRecursion (Says t set c) ps → AllByRecursion (λ e. Says t set e.class e.piece) (entries c ps)
   says_entries c ps a = All-map (λ (e : Entry P). Says t set e.class e.piece) (λ p. record { class = c; piece = p }) ps a
 
   makes_none : (x : P) → t.keep x ≡ None → Makes t set x (entries Outside (x ∷ [])) []

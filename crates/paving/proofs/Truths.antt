@@ -1,6 +1,6 @@
 -- The truth law, and the limits.
 use Rattle.std.proofs.Common.{◌≡◌, ℕ, ◌≤◌, Bool, true, false, cond, ◌&&◌, List, [], ◌∷◌, length, sym, refl, ap, ◌∙◌, inl, inr, arith}
-use Rattle.std.specs.List.{AllByRecursion as All}
+use Rattle.std.specs.List.{AllByRecursion}
 use Rattle.std.proofs.lemmas.Bool.{cases_Bool, cases_eq, false≢true, true≢false}
 use Rattle.scan.specs.Count.{bit}
 use Rattle.domain.specs.Laws.{Laws}
@@ -25,7 +25,7 @@ and_false true b e = ap bit e
 and_false false b e = refl
 
 -- at grain 1 no piece is small
-none_small : {P : Type 0} (t : Task P) → Laws t.maps → (ps : List P) → All (Small t) ps → t.grain ≡ 1 → ps ≡ []
+none_small : {P : Type 0} (t : Task P) → Laws t.maps → (ps : List P) → AllByRecursion (Small t) ps → t.grain ≡ 1 → ps ≡ []
 none_small t l [] a e = refl
 none_small t l (p ∷ ps) a e = absurd (omega (arith, a.0.1, l.larger p a.0.0))
 
@@ -34,7 +34,7 @@ steep_length d [] h = omega arith
 steep_length d (p ∷ ps) h = omega (arith, h.0)
 
 module _ {P : Type 0} (t : Task P) (set : ℕ → Bool) where
-  put_says : (c e : Class) (p : P) (ps : List P) → Says t set e p → All (Says t set c) ps → All (Says t set c) (put c e p ps)
+  put_says : (c e : Class) (p : P) (ps : List P) → Says t set e p → AllByRecursion (Says t set c) ps → AllByRecursion (Says t set c) (put c e p ps)
   put_says Inside Inside p ps h a = (h, a)
   put_says Inside Outside p ps h a = a
   put_says Inside Undecided p ps h a = a
@@ -46,7 +46,7 @@ module _ {P : Type 0} (t : Task P) (set : ℕ → Bool) where
   put_says Undecided Undecided p ps h a = (h, a)
 
   -- what records say, class by class
-  pub class_says : (c : Class) (rs : List (Record P)) → All (λ r. Says t set r.class r.piece) rs → All (Says t set c) (of_class c rs)
+  pub class_says : (c : Class) (rs : List (Record P)) → AllByRecursion (λ r. Says t set r.class r.piece) rs → AllByRecursion (Says t set c) (of_class c rs)
   class_says c [] a = tt
   class_says c (r ∷ rs) a = put_says c r.class r.piece (of_class c rs) a.0 (class_says c rs a.1)
 

@@ -1,7 +1,7 @@
 -- The laws of a sheet: what holds after every list of turns from an opening.
 use Rattle.std.specs.Prelude.{◌≡◌, ℕ, suc, ◌+◌, ◌*◌, ◌<◌, ◌≤◌, Bool, true, false, ◌&&◌, ◌⊎◌, List, [], ◌∷◌, ◌++◌, length, Ok, Err, MatchOption, ◌≢◌, slice_index_or}
 use Rattle.std.specs.Result as Results
-use Rattle.std.specs.List.{AllByRecursion as All}
+use Rattle.std.specs.List.{AllByRecursion}
 use Rattle.scan.specs.Count.{bit}
 use Rattle.domain.specs.Maps.{Maps, Inside as Within, Parts, times, total}
 use Rattle.domain.specs.Refusals.{Given, code}
@@ -95,9 +95,9 @@ Small t p = (1 < t.maps.count p) × (t.maps.size p ≤ t.grain)
 
 -- What records say is true of the set, whether they are on the roll or taken.
 pub record Truth {P : Type 0} (t : Task P) (set : ℕ → Bool) (s : State P) : Type 0 where
-  pub inside_all : All (AllOf t.maps set) (of_class inside s.made)
-  pub outside_none : All (NoneOf t.maps set) (of_class outside s.made)
-  pub undecided_small : All (Small t) (of_class undecided s.made)
+  pub inside_all : AllByRecursion (AllOf t.maps set) (of_class inside s.made)
+  pub outside_none : AllByRecursion (NoneOf t.maps set) (of_class outside s.made)
+  pub undecided_small : AllByRecursion (Small t) (of_class undecided s.made)
   pub decided : t.grain ≡ 1 → of_class undecided s.made ≡ []
   -- at grain 1 with nothing waiting, the inside pieces hold exactly the start's points of the set
   pub exact : t.grain ≡ 1 → s.waiting ≡ [] → (n : ℕ) → times t.maps n (of_class inside s.made) ≡ bit (t.maps.holds t.start n && set n)

@@ -1,6 +1,6 @@
 -- Gathering by the numbers of boxes gives what gathering the boxes does.
 use Rattle.std.proofs.Common.{◌≡◌, ℕ, suc, ◌-◌, ◌/◌, ◌%◌, ◌^◌, ◌<◌, ◌≤◌, Bool, true, List, [], ◌∷◌, map, Some, None, Option, sym, refl, ap, ◌∙◌, subst, ap₂, arith, MatchOption}
-use Rattle.std.specs.List.{AllByRecursion as All}
+use Rattle.std.specs.List.{AllByRecursion}
 use Rattle.std.proofs.ByRecursion.{All-map, All-weaker}
 use Rattle.std.proofs.lemmas.Bool.{leb-true}
 use Rattle.scan.specs.Depth.{depth, deep, Below}
@@ -44,7 +44,7 @@ module _ (side : PlaneBox → Stretch) (extent : ℕ → Stretch) (agree : (n : 
       let j = joined_is (box_numbered n) (pieces plane ns) ps e in
       ap₂ ◌∷◌ (agree n j.0 j.2) (sides_of ns j.1 j.3) ∙ ap (map side) j.4
 
-  module _ (lo hi : ℕ) (fits : hi ≤ 4095) (some : lo ≤ hi) (k : ℕ) (deeper : 0 < k) (ps : List PlaneBox) (all : All (λ p. (lo ≤ (side p).low) × ((side p).high ≤ hi)) ps) where
+  module _ (lo hi : ℕ) (fits : hi ≤ 4095) (some : lo ≤ hi) (k : ℕ) (deeper : 0 < k) (ps : List PlaneBox) (all : AllByRecursion (λ p. (lo ≤ (side p).low) × ((side p).high ≤ hi)) ps) where
     bounded : (i : ℕ) → deep k (map side ps) i ≡ true → (lo ≤ i) × (i < suc hi)
     bounded i d =
         let b = between_all lo hi i (map side ps) (All-map (λ s. (lo ≤ s.low) × (s.high ≤ hi)) side ps all) (omega (arith, leb-true k (depth (map side ps) i) d)) in

@@ -2,7 +2,7 @@
 use Rattle.std.specs.Prelude.{◌≡◌, ℕ, suc, ◌/◌, ◌%◌, ◌<◌, ◌≤◌, Bool, true, false, cond, List, [], ◌∷◌, map, length, Some, None, count_by, Option, nat_le, refl}
 use Rattle.std.proofs.Common.{arith, inl, inr, sym, ap, ap₂, subst, ◌∙◌}
 use Rattle.std.proofs.Math.Path.{fun_ext}
-use Rattle.std.specs.List.{AllByRecursion as All}
+use Rattle.std.specs.List.{AllByRecursion}
 use Rattle.std.specs.List.Sorted.{IsPermutation}
 use Rattle.std.proofs.lemmas.List.Sorted.{sum_by-IsPermutation}
 use Rattle.std.proofs.lemmas.List.Sums.{sum_by-cons, count_by-le-length}
@@ -19,7 +19,7 @@ use Rattle.plane.specs.Made.{box_some}
 use Rattle.plane.specs.Within.{within_from, covers_is, covers_from, holds_is, holds_from}
 
 -- where some stretch holds an index, it lies between bounds of all of them
-pub between_all : (lo hi i : ℕ) (ss : List Stretch) → All (λ s. (lo ≤ s.low) × (s.high ≤ hi)) ss → 0 < depth ss i → (lo ≤ i) × (i ≤ hi)
+pub between_all : (lo hi i : ℕ) (ss : List Stretch) → AllByRecursion (λ s. (lo ≤ s.low) × (s.high ≤ hi)) ss → 0 < depth ss i → (lo ≤ i) × (i ≤ hi)
 between_all lo hi i [] a h = absurd (omega arith)
 between_all lo hi i (s ∷ ss) a h =
     elim (cases_Bool (covers s i)) [

@@ -1,7 +1,7 @@
 -- The text of numbers: no line end in it, and short.
 use Rattle.std.proofs.Common.{◌≡◌, ℕ, ◌+◌, ◌*◌, ◌^◌, ◌<◌, ◌≤◌, Bool, true, false, cond, eqb, List, [], ◌∷◌, length, ℤ, pos, negsuc, ◌≤ℤ◌, refl, arith, w32, SFits}
 use lib.Signed.{mag}
-use Rattle.std.specs.List.{AllByRecursion as All}
+use Rattle.std.specs.List.{AllByRecursion}
 use Rattle.std.specs.Fmt.{signed_decimal}
 use Rattle.std.proofs.lemmas.Fmt.{length_signed_le}
 use Rattle.std.proofs.ByRecursion.{All-append}
@@ -24,7 +24,7 @@ pub without_end : (xs : List ℕ) → endless xs ≡ true → Without 10 xs
 without_end [] h = tt
 without_end (x ∷ xs) h = endless_more (eqb x 10) x xs refl h (without_end xs)
 
-pub listed_without : (zs : List ℤ) → All (SFits w32) zs → Without 10 (listed zs)
+pub listed_without : (zs : List ℤ) → AllByRecursion (SFits w32) zs → Without 10 (listed zs)
 listed_without [] f = tt
 listed_without (z ∷ []) f = signed_without z 10 f.0 (omega arith)
 listed_without (z ∷ y ∷ zs) f = All-append _ (signed_decimal z) (44 ∷ listed (y ∷ zs)) (signed_without z 10 f.0 (omega arith)) (λ e. omega (arith, e), listed_without (y ∷ zs) f.1)
@@ -33,7 +33,7 @@ mag_small : (z : ℤ) → SFits w32 z → mag z + 1 < 10 ^ 10
 mag_small (pos n) f = omega (arith, f.sfits)
 mag_small (negsuc n) f = omega (arith, f.sfits)
 
-pub listed_short : (zs : List ℤ) → All (SFits w32) zs → length (listed zs) ≤ 12 * length zs
+pub listed_short : (zs : List ℤ) → AllByRecursion (SFits w32) zs → length (listed zs) ≤ 12 * length zs
 listed_short [] f = omega arith
 listed_short (z ∷ []) f = omega (arith, length_signed_le 10 z (mag_small z f.0) (small_mag z f.0))
 listed_short (z ∷ y ∷ zs) f =

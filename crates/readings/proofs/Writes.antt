@@ -1,6 +1,6 @@
 -- Each sort of lines: what is written is read, and nothing else is.
 use Rattle.std.proofs.Common.{◌≡◌, ℕ, suc, ◌≤◌, Bool, true, false, ◌⊎◌, List, [], ◌∷◌, ◌++◌, length, ℤ, pos, Ok, Err, codes, decimal, Result, sym, refl, ap, ◌∙◌, subst, inl, inr, arith, w32, SFits}
-use Rattle.std.specs.List.{AllByRecursion as All}
+use Rattle.std.specs.List.{AllByRecursion}
 use Rattle.std.proofs.ByRecursion.{All-append}
 use Rattle.std.proofs.lemmas.List.{length-append}
 use Rattle.dial.specs.Made.{same_arc}
@@ -54,7 +54,7 @@ module _ {X : Type 0} (key : List ℕ) (n : ℕ) (W : List ℤ → X → Type 0)
     pub same : (x y : X) → Good x → Good y → nums x ≡ nums y → x ≡ y
     pub told : (zs : List ℤ) → One (E zs)
     pub count : (x : X) → Good x → length (nums x) ≡ suc n
-    pub fits : (x : X) → Good x → All (SFits w32) (nums x)
+    pub fits : (x : X) → Good x → AllByRecursion (SFits w32) (nums x)
     pub free : Without 10 key
     pub small : length key ≤ 6
     pub few : n ≤ 5
@@ -130,7 +130,7 @@ box_sort =
       few = omega arith;
     })
 
-arc_fits : (a : Arc) → All (SFits w32) (arc_numbers a)
+arc_fits : (a : Arc) → AllByRecursion (SFits w32) (arc_numbers a)
 arc_fits a = (small_natural a.start (omega (arith, a.placed)), (small_natural a.len (omega (arith, a.most)), tt))
 
 arc_same : (a b : Arc) → arc_numbers a ≡ arc_numbers b → a ≡ b
@@ -199,7 +199,7 @@ ring_count : (p : PlaneReading) → RingLike p → length (reading_numbers p) �
 ring_count (OfRing r) g = refl
 ring_count (OfCone c) g = absurd g
 
-ring_fits : (p : PlaneReading) → RingLike p → All (SFits w32) (reading_numbers p)
+ring_fits : (p : PlaneReading) → RingLike p → AllByRecursion (SFits w32) (reading_numbers p)
 ring_fits (OfRing r) g = (
   small_signed r.bx r.west r.east,
   (small_signed r.by r.south r.north, (small_natural r.inner (omega (arith, r.ordered, r.most)), (small_natural r.outer (omega (arith, r.most)), tt))),
@@ -245,7 +245,7 @@ cone_count : (p : PlaneReading) → ConeLike p → length (reading_numbers p) �
 cone_count (OfRing r) g = absurd g
 cone_count (OfCone c) g = refl
 
-cone_fits : (p : PlaneReading) → ConeLike p → All (SFits w32) (reading_numbers p)
+cone_fits : (p : PlaneReading) → ConeLike p → AllByRecursion (SFits w32) (reading_numbers p)
 cone_fits (OfRing r) g = absurd g
 cone_fits (OfCone c) g = (
   small_signed c.bx c.west c.east,

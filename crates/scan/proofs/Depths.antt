@@ -1,6 +1,6 @@
 -- Depth over a list of stretches, member by member; and that its first and last index are ends of stretches.
 use Rattle.std.proofs.Common.{◌≡◌, ℕ, zero, suc, ◌+◌, ◌-◌, ◌<◌, ◌≤◌, min, max, Bool, true, false, cond, ◌⊎◌, List, [], ◌∷◌, ◌++◌, map, length, get_or, take, Some, None, Option, unwrap_or, sym, refl, ap, ◌∙◌, subst, inl, inr, arith}
-use Rattle.std.specs.List.{AllByRecursion as All}
+use Rattle.std.specs.List.{AllByRecursion}
 use Rattle.std.proofs.lemmas.List.{map_more, take_all}
 use Rattle.std.proofs.lemmas.List.Sums.{sum_by_push, sum_by-cons}
 use Rattle.std.proofs.lemmas.Bool.{leb-true, le-leb, cases_eq, cases_lt, both_ways}
@@ -55,7 +55,7 @@ module _ (t : ℕ → Bool) (es : List ℕ) (e : ℕ) where
   never : (m : ℕ) → t m ≡ false → t m ≡ true → ⊥
   never m n y = both_ways (t m) n y
 
-  smaller : (m : ℕ) → t m ≡ true → All (λ i. t i ≡ true → m ≤ i) es → t e ≡ true → Earliest t (es ++ e ∷ []) (Some (min m e))
+  smaller : (m : ℕ) → t m ≡ true → AllByRecursion (λ i. t i ≡ true → m ≤ i) es → t e ≡ true → Earliest t (es ++ e ∷ []) (Some (min m e))
   smaller m y a z = (
     elim (cases_lt m e) [ inl h ↦ subst (λ (k : ℕ). t k ≡ true) (omega arith) y | inr h ↦ subst (λ (k : ℕ). t k ≡ true) (omega arith) z ],
     All-push (λ i. t i ≡ true → min m e ≤ i) es e (All-weaker (λ i. t i ≡ true → m ≤ i) (λ i. t i ≡ true → min m e ≤ i) (λ i h u. omega (arith, h u)) es a) (λ u. omega arith),
@@ -69,7 +69,7 @@ module _ (t : ℕ → Bool) (es : List ℕ) (e : ℕ) where
   earliest_no None f y = All-push (λ i. t i ≡ false) es e f y
   earliest_no (Some m) f y = (f.0, All-push (λ i. t i ≡ true → m ≤ i) es e f.1 (λ u. absurd (never e y u)))
 
-  greater : (m : ℕ) → t m ≡ true → All (λ i. t i ≡ true → i ≤ m) es → t e ≡ true → Latest t (es ++ e ∷ []) (Some (max m e))
+  greater : (m : ℕ) → t m ≡ true → AllByRecursion (λ i. t i ≡ true → i ≤ m) es → t e ≡ true → Latest t (es ++ e ∷ []) (Some (max m e))
   greater m y a z = (
     elim (cases_lt m e) [ inl h ↦ subst (λ (k : ℕ). t k ≡ true) (omega arith) z | inr h ↦ subst (λ (k : ℕ). t k ≡ true) (omega arith) y ],
     All-push (λ i. t i ≡ true → i ≤ max m e) es e (All-weaker (λ i. t i ≡ true → i ≤ m) (λ i. t i ≡ true → i ≤ max m e) (λ i h u. omega (arith, h u)) es a) (λ u. omega arith),
@@ -99,7 +99,7 @@ not_live false n = refl
 
 -- depth rises only where a stretch begins, and falls only where one ends
 module _ (Q : Stretch → Type 0) where
-  begins_or : (ss : List Stretch) (i : ℕ) → All Q ss → ((s : Stretch) × Q s × (s.low ≡ suc i)) ⊎ (depth ss (suc i) ≤ depth ss i)
+  begins_or : (ss : List Stretch) (i : ℕ) → AllByRecursion Q ss → ((s : Stretch) × Q s × (s.low ≡ suc i)) ⊎ (depth ss (suc i) ≤ depth ss i)
   begins_or [] i a = inr (omega arith)
   begins_or (s ∷ ss) i a =
       elim (cases_eq s.low (suc i)) [
@@ -110,7 +110,7 @@ module _ (Q : Stretch → Type 0) where
         ]
       ]
 
-  begins_at_0 : (ss : List Stretch) → All Q ss → ((s : Stretch) × Q s × (s.low ≡ 0)) ⊎ (depth ss 0 ≡ 0)
+  begins_at_0 : (ss : List Stretch) → AllByRecursion Q ss → ((s : Stretch) × Q s × (s.low ≡ 0)) ⊎ (depth ss 0 ≡ 0)
   begins_at_0 [] a = inr refl
   begins_at_0 (s ∷ ss) a =
       elim (cases_eq s.low 0) [
@@ -121,7 +121,7 @@ module _ (Q : Stretch → Type 0) where
         ]
       ]
 
-  ends_or : (ss : List Stretch) (i : ℕ) → All Q ss → ((s : Stretch) × Q s × (s.high ≡ i)) ⊎ (depth ss i ≤ depth ss (suc i))
+  ends_or : (ss : List Stretch) (i : ℕ) → AllByRecursion Q ss → ((s : Stretch) × Q s × (s.high ≡ i)) ⊎ (depth ss i ≤ depth ss (suc i))
   ends_or [] i a = inr (omega arith)
   ends_or (s ∷ ss) i a =
       elim (cases_eq s.high i) [
@@ -133,7 +133,7 @@ module _ (Q : Stretch → Type 0) where
       ]
 
   -- a deep index has a deep beginning at or before it
-  deep_begins : (k : ℕ) (ss : List Stretch) (i : ℕ) → 0 < k → All Q ss → deep k ss i ≡ true → (s : Stretch) × Q s × (s.low ≤ i) × (deep k ss s.low ≡ true)
+  deep_begins : (k : ℕ) (ss : List Stretch) (i : ℕ) → 0 < k → AllByRecursion Q ss → deep k ss i ≡ true → (s : Stretch) × Q s × (s.low ≤ i) × (deep k ss s.low ≡ true)
   deep_begins k ss zero h a d =
       elim (begins_at_0 ss a) [
         | inl f ↦ (f.0, f.1, omega (arith, f.2), subst (λ (j : ℕ). deep k ss j ≡ true) (sym f.2) d)
@@ -146,7 +146,7 @@ module _ (Q : Stretch → Type 0) where
       ]
 
   -- and a deep end at or after it
-  deep_ends : (w k : ℕ) (ss : List Stretch) (i b : ℕ) → i + w ≡ b → Below b ss → 0 < k → All Q ss → deep k ss i ≡ true → (s : Stretch) × Q s × (i ≤ s.high) × (deep k ss s.high ≡ true)
+  deep_ends : (w k : ℕ) (ss : List Stretch) (i b : ℕ) → i + w ≡ b → Below b ss → 0 < k → AllByRecursion Q ss → deep k ss i ≡ true → (s : Stretch) × Q s × (i ≤ s.high) × (deep k ss s.high ≡ true)
   deep_ends zero k ss i b e l h a d = absurd (omega (arith, deep_below k ss i b l h d))
   deep_ends (suc w) k ss i b e l h a d =
       elim (ends_or ss i a) [
@@ -156,7 +156,7 @@ module _ (Q : Stretch → Type 0) where
 
 -- so what a search among the ends finds is the run of the deep indices
 module _ (k : ℕ) (f : ℕ → Stretch) (ns : List ℕ) (b : ℕ) (some : 0 < k) (ends : Below b (map f ns)) where
-  over : (P : ℕ → Type 0) (g : Stretch → ℕ) (ms : List ℕ) → All P (map (λ n. g (f n)) ms) → All (λ s. P (g s)) (map f ms)
+  over : (P : ℕ → Type 0) (g : Stretch → ℕ) (ms : List ℕ) → AllByRecursion P (map (λ n. g (f n)) ms) → AllByRecursion (λ s. P (g s)) (map f ms)
   over P g [] a = tt
   over P g (m ∷ ms) a = (a.0, over P g ms a.1)
 

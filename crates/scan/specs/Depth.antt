@@ -1,6 +1,6 @@
 -- How many of a list of stretches hold an index.
 use Rattle.std.specs.Prelude.{◌≡◌, ℕ, ◌<◌, ◌≤◌, Bool, true, false, ◌&&◌, List, count_by, Option, MatchOption, nat_le}
-use Rattle.std.specs.List.{AllByRecursion as All}
+use Rattle.std.specs.List.{AllByRecursion}
 use Rattle.scan.specs.declared.stretch.Stretch.{Stretch}
 
 abbrev pub covers : Stretch → ℕ → Bool
@@ -15,12 +15,12 @@ deep k ss i = nat_le k (depth ss i)
 
 -- all of them end below b
 abbrev pub Below : ℕ → List Stretch → Type 0
-Below b ss = All (λ s. s.high < b) ss
+Below b ss = AllByRecursion (λ s. s.high < b) ss
 
 -- of the listed indices that pass a test, r is the smallest, if there is one
 abbrev pub Earliest : (ℕ → Bool) → List ℕ → Option ℕ → Type 0
-Earliest t es r = MatchOption r (All (λ i. t i ≡ false) es) (λ e. (t e ≡ true) × All (λ i. t i ≡ true → e ≤ i) es)
+Earliest t es r = MatchOption r (AllByRecursion (λ i. t i ≡ false) es) (λ e. (t e ≡ true) × AllByRecursion (λ i. t i ≡ true → e ≤ i) es)
 
 -- of the listed indices that pass a test, r is the largest, if there is one
 abbrev pub Latest : (ℕ → Bool) → List ℕ → Option ℕ → Type 0
-Latest t es r = MatchOption r (All (λ i. t i ≡ false) es) (λ e. (t e ≡ true) × All (λ i. t i ≡ true → i ≤ e) es)
+Latest t es r = MatchOption r (AllByRecursion (λ i. t i ≡ false) es) (λ e. (t e ≡ true) × AllByRecursion (λ i. t i ≡ true → i ≤ e) es)

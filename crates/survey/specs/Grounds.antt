@@ -1,6 +1,6 @@
 -- What the printed text says of the ground.
 use Rattle.std.specs.Prelude.{◌≡◌, ℕ, ◌-◌, ◌<◌, ◌≤◌, true, List, length, Ok, count_by}
-use Rattle.std.specs.List.{AllByRecursion as All}
+use Rattle.std.specs.List.{AllByRecursion}
 use Rattle.domain.specs.Maps.{Maps}
 use Rattle.dial.specs.Arcs.{dial}
 use Rattle.plane.specs.Boxes.{plane}
@@ -30,8 +30,8 @@ module _ {P R : Type 0} (d : Maps P) (each : R → Meaning P) (m : Meant P R) wh
     -- labels, shares, grain and sums are right
     pub ground : Ground (task d (layered d each m) m.start m.grain.size) (layered d each m).set shown text
     -- inside pieces are held, and outside pieces are not
-    pub inside_held : All Held (of_class Inside ground.records)
-    pub outside_unheld : All Unheld (of_class Outside ground.records)
+    pub inside_held : AllByRecursion Held (of_class Inside ground.records)
+    pub outside_unheld : AllByRecursion Unheld (of_class Outside ground.records)
 
 -- on either sheet, by the readings' own sets
 abbrev pub Tells : Survey → List ℕ → Type 0
