@@ -1,43 +1,36 @@
 // Bytes as the table writes them: `\n` for byte 10, a backslash twice, `\xNN` for what is not printable.
+ghost use Rattle.std.specs.Prelude.{◌<◌, length, IfSome};
+
 use std::alloc::{AllocError, Global};
 
-#[derive(Clone, Copy)]
-enum Place {
-    Plain,
-    Backslash,
-    High,
-    Low(u8),
+// The value of a digit of base sixteen; 0 for what is none.
+fn digit(byte: u8) -> u8 {
+    char::from(byte)
+        .to_digit(16)
+        .map_or(0, |value| (value & 15) as u8)
 }
 
-fn digit(byte: u8) -> u8 {
-    match byte {
-        b'0'..=b'9' => byte - b'0',
-        b'a'..=b'f' => byte - b'a' + 10,
-        _ => 0,
+// The byte that a text begins with, and what is written after it. A text that ends inside an escape has no more.
+fn first_byte(text: &[u8]) -> Option<(u8, &[u8])>
+    ensures { IfSome result (λ p. length p.1.now < length text.now) }
+{
+    match text {
+        [b'\\', b'x', high, low, rest @ ..] => Some(((digit(*high) << 4) | digit(*low), rest)),
+        [b'\\', b'x', ..] => None,
+        [b'\\', b'n', rest @ ..] => Some((b'\n', rest)),
+        [b'\\', byte, rest @ ..] => Some((*byte, rest)),
+        [b'\\'] => None,
+        [byte, rest @ ..] => Some((*byte, rest)),
+        [] => None,
     }
 }
 
-pub(crate) fn unescaped(heap: Global, text: &[u8]) -> Result<Vec<u8>, AllocError> {
-    let mut bytes = Vec::new(heap);
-    let mut place = Place::Plain;
-    for byte in text {
-        place = match place {
-            Place::Plain if *byte == b'\\' => Place::Backslash,
-            Place::Plain => {
-                bytes.push(*byte)?;
-                Place::Plain
-            }
-            Place::Backslash if *byte == b'x' => Place::High,
-            Place::Backslash => {
-                bytes.push(if *byte == b'n' { b'\n' } else { *byte })?;
-                Place::Plain
-            }
-            Place::High => Place::Low(digit(*byte)),
-            Place::Low(high) => {
-                bytes.push(high.wrapping_mul(16).wrapping_add(digit(*byte)))?;
-                Place::Plain
-            }
-        };
+pub(crate) fn unescaped(alloc: Global, text: &[u8]) -> Result<Vec<u8>, AllocError> {
+    let mut bytes = Vec::new(alloc);
+    let mut left = text;
+    while let Some((byte, rest)) = first_byte(left) {
+        bytes.push(byte)?;
+        left = rest;
     }
     Ok(bytes)
 }

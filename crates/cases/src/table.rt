@@ -5,18 +5,15 @@ use std::fs;
 use survey::pave::pave;
 
 // Whether the library prints for a file what the table says.
-fn agrees(heap: Global, file: &str, output: &str) -> anyhow::Result<bool> {
-    let bytes = unescaped(heap, file.as_bytes())?;
-    let expected = unescaped(heap, output.as_bytes())?;
-    let text = pave(heap, &bytes)?;
+fn agrees(alloc: Global, file: &str, output: &str) -> anyhow::Result<bool> {
+    let bytes = unescaped(alloc, file.as_bytes())?;
+    let expected = unescaped(alloc, output.as_bytes())?;
+    let text = pave(alloc, &bytes)?;
     Ok(text.as_bytes() == expected.as_slice())
 }
 
 fn named<'a>(line: Option<&'a str>, mark: &str) -> &'a str {
-    match line {
-        Some(line) => line.strip_prefix(mark).unwrap_or(""),
-        None => "",
-    }
+    line.and_then(|line| line.strip_prefix(mark)).unwrap_or("")
 }
 
 pub(crate) fn run(rt: &HostRuntime) -> anyhow::Result<()> {

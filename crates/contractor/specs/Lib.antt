@@ -1,4 +1,5 @@
 pub mod Layers
 pub mod Meaning
+pub mod Means
 pub mod Rearranged
 pub mod Theorems

@@ -1,6 +1,7 @@
 -- Spans and gatherings are the smallest arcs that hold what they must.
-use Rattle.std.proofs.Common.{◌≡◌, ℕ, ◌-◌, ◌<◌, ◌≤◌, true, ◌⊎◌, List, map, IfSome, Some, None, Option, sym, ap, ◌∙◌, subst, inl, inr, arith, MatchOption}
+use Rattle.std.proofs.Common.{◌≡◌, ℕ, ◌-◌, ◌<◌, ◌≤◌, true, ◌⊎◌, List, map, IfSome, Some, None, Option, sym, refl, ap, ◌∙◌, subst, inl, inr, arith, MatchOption}
 use Rattle.std.proofs.lemmas.Bool.{leb-true}
+use Rattle.std.specs.Option.{option_or}
 use Rattle.scan.specs.Depth as stretches
 use Rattle.scan.specs.Depth.{Below}
 use Rattle.scan.specs.Live.{run, Runs}
@@ -79,6 +80,12 @@ along_smallest x ps k (Some s) some a f h =
 pub gather_smallest : (x : Arc) (ps : List Arc) (k : ℕ) → 0 < k → Inside dial x ps → Smallest dial x (λ n. k ≤ times dial n ps) (gather x ps k)
 gather_smallest x ps k some a =
     along_smallest x ps k (run (deep x ps k) 0 x.len) some a (ran x ps k) (gather_holds x ps k some a)
+
+-- where there are not both, the span is the one that is there
+pub span_or : (x : Arc) (one other : Option Arc) → ((p q : Arc) → one ≡ Some p → other ≡ Some q → ⊥) → option_or one other ≡ span x one other
+span_or x None other n = refl
+span_or x (Some p) None n = refl
+span_or x (Some p) (Some q) n = absurd (n p q refl refl)
 
 -- what a call of span answers, and one of gather
 pub span_answer : (x : Arc) (one other r : Option Arc) → Fits dial x one → Fits dial x other → r ≡ span x one other → ((Fits dial x one × Fits dial x other) × (r ≡ span x one other)) × Smallest dial x (λ n. Holds dial one n ⊎ Holds dial other n) r

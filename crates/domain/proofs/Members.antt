@@ -1,8 +1,8 @@
 -- A list of numbers, and the sub-pieces that they name.
-use Rattle.std.proofs.Common.{◌≡◌, ℕ, ◌<◌, ◌≤◌, true, List, [], ◌∷◌, map, length, get_or, take, Some, None, Option, refl, subst, ap₂, arith, MatchOption}
-use Rattle.std.specs.List.{AllByRecursion}
-use Rattle.std.proofs.ByRecursion.{All-get_or}
-use Rattle.std.proofs.lemmas.List.{take_all}
+use Rattle.std.proofs.Common.{◌≡◌, ℕ, ◌<◌, true, List, [], ◌∷◌, map, length, Some, None, Option, Bool, false, Decides, MatchBool, refl, subst, ap₂, arith, MatchOption}
+use Rattle.std.specs.List.{AllByRecursion, AllWithin, HoldsAt}
+use Rattle.std.proofs.ByRecursion.{All-get_or, all_from_every}
+use Rattle.std.proofs.lemmas.Bool.{false≢true}
 use Rattle.domain.specs.Maps.{Maps, joined, pieces, Inside, Member, Members}
 
 -- each number of a list is that of the piece at its place in another
@@ -60,9 +60,7 @@ module _ {P : Type 0} (d : Maps P) (x : P) where
   pub members_pieces : (ns : List ℕ) → Members d x ns → (ps : List P) × (pieces d ns ≡ Some ps) × Inside d x ps
   members_pieces ns m = some_of (pieces d ns) m
 
-  -- what a loop over the numbers finds: one that is no member's, or none such
-  pub members_refused : (ns : List ℕ) (i : ℕ) → i < length ns → (Member d x (get_or ns i 0) → ⊥) → Members d x ns → ⊥
-  members_refused ns i h f m = f (All-get_or (Member d x) ns i 0 h (all_members ns m))
-
-  pub members_found : (ns : List ℕ) (i : ℕ) → length ns ≤ i → AllByRecursion (Member d x) (take i ns) → Members d x ns
-  members_found ns i h a = members_all ns (subst (AllByRecursion (Member d x)) (take_all i ns h) a)
+  -- what a test of each of the numbers tells
+  pub members_decided : (ns : List ℕ) (r : Bool) → MatchBool r (AllWithin (Member d x) ns 0 (length ns)) ((k : ℕ) × (k < length ns) × HoldsAt (λ n. Member d x n → ⊥) ns k) → Decides r (Members d x ns)
+  members_decided ns true a = (λ _. members_all ns (all_from_every (Member d x) ns a), λ _. refl)
+  members_decided ns false n = (λ e. absurd (false≢true e), λ m. absurd (n.2 0 (All-get_or (Member d x) ns n.0 0 n.1 (all_members ns m))))

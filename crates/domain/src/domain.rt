@@ -1,7 +1,7 @@
 // A domain: the maps over its pieces, the laws that they keep, and the calls that give them.
-ghost use Rattle.std.specs.Prelude.{◌≡◌, ◌<◌, true, Some, None, MatchResult};
+ghost use Rattle.std.specs.Prelude.{◌≡◌, ◌<◌, true, Some, None, Decides, MatchResult};
 ghost use Rattle.domain.specs.Laws.{Laws};
-ghost use Rattle.domain.specs.Maps.{Maps, Fits, Members, Gathered, listed};
+ghost use Rattle.domain.specs.Maps.{Maps, Fits, Member, Members, Gathered, listed};
 ghost use Rattle.domain.specs.Refusals.{Given, code};
 
 use crate::refusal::Refusal;
@@ -32,6 +32,27 @@ pub trait Domain: Copy {
     // Whether this is a sub-piece of `outer`.
     fn is_within(&self, outer: &Self) -> bool
         ensures { result ≡ maps.within self.now outer.now };
+
+    // Whether a number is that of a sub-piece.
+    fn has_member(&self, number: u64) -> bool
+        ensures { Decides result (Member maps self.now number) }
+    {
+        Self::from_number(number).is_ok_and(|piece| piece.is_within(self))
+    }
+
+    // Whether each number of a list is that of a sub-piece.
+    fn has_members(&self, numbers: &[u64]) -> bool
+        ensures { Decides result (Members maps self.now numbers.now) }
+    {
+        numbers.iter().all(|&number| self.has_member(number))
+    }
+
+    // Whether what is given, if anything, is a sub-piece.
+    fn takes(&self, given: &Option<Self>) -> bool
+        ensures { Decides result (Fits maps self.now given.now) }
+    {
+        given.is_none_or(|piece| piece.is_within(self))
+    }
 
     // The low and the high half; refused where there is one point.
     fn halves(&self) -> Result<(Self, Self), Refusal>

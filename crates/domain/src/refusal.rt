@@ -4,24 +4,24 @@ ghost use Rattle.domain.specs.Refusals.{code};
 
 #[derive(Clone, Copy, PartialEq, Eq, Debug)]
 pub enum Refusal {
-    NotAPiece,
-    BadGrain,
-    OutOfRange,
-    BadRadii,
-    BadCone,
-    DraftFull,
-    MemoryFull,
-    TooManyLiars,
-    NoSuchMember,
-    PanelTooLarge,
-    NothingWaiting,
-    RollFull,
-    RollEmpty,
-    NotAPoint,
-    KeyNotDue,
-    Malformed,
-    CountDiffers,
-    FileTooLarge,
+    NotAPiece = 1,
+    BadGrain = 2,
+    OutOfRange = 3,
+    BadRadii = 4,
+    BadCone = 5,
+    DraftFull = 6,
+    MemoryFull = 7,
+    TooManyLiars = 8,
+    NoSuchMember = 9,
+    PanelTooLarge = 10,
+    NothingWaiting = 11,
+    RollFull = 12,
+    RollEmpty = 13,
+    NotAPoint = 14,
+    KeyNotDue = 15,
+    Malformed = 16,
+    CountDiffers = 17,
+    FileTooLarge = 18,
 }
 
 impl Refusal {
@@ -29,25 +29,6 @@ impl Refusal {
     pub fn code(&self) -> u8
         ensures { result ≡ code self.now }
     {
-        match self {
-            Refusal::NotAPiece => 1,
-            Refusal::BadGrain => 2,
-            Refusal::OutOfRange => 3,
-            Refusal::BadRadii => 4,
-            Refusal::BadCone => 5,
-            Refusal::DraftFull => 6,
-            Refusal::MemoryFull => 7,
-            Refusal::TooManyLiars => 8,
-            Refusal::NoSuchMember => 9,
-            Refusal::PanelTooLarge => 10,
-            Refusal::NothingWaiting => 11,
-            Refusal::RollFull => 12,
-            Refusal::RollEmpty => 13,
-            Refusal::NotAPoint => 14,
-            Refusal::KeyNotDue => 15,
-            Refusal::Malformed => 16,
-            Refusal::CountDiffers => 17,
-            Refusal::FileTooLarge => 18,
-        }
+        *self as u8
     }
 }

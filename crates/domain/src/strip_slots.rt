@@ -1,5 +1,5 @@
 // What is left of a piece without a sub-piece: at most four pieces, in order.
-#[derive(Drop)]
+#[derive(Clone, Copy)]
 pub struct Strips<P> {
     pub first: Option<P>,
     pub second: Option<P>,

@@ -1,38 +1,18 @@
 // The dial at its edges.
+use crate::refusals::refused;
 use dial::arc::Arc;
 use domain::domain::Domain;
-use domain::refusal::Refusal;
 use domain::sums::points_left;
-use std::process::Abort;
 use std::test::Fail;
 
-fn same(rt: &impl Abort, arc: &Arc, start: u16, len: u16) -> Result<(), Fail> {
-    assert_eq!(rt; arc.start(), start);
-    assert_eq!(rt; arc.len(), len);
-    Ok(())
-}
-
-fn is(rt: &impl Abort, answer: Option<Arc>, start: u16, len: u16) -> Result<(), Fail> {
-    match answer {
-        Some(arc) => same(rt, &arc, start, len),
-        None => Err(Fail::new("nothing")),
-    }
-}
-
-fn refused<T: Drop>(rt: &impl Abort, answer: Result<T, Refusal>) -> Result<(), Fail> {
-    match answer {
-        Ok(_) => Err(Fail::new("not refused")),
-        Err(refusal) => {
-            assert_eq!(rt; refusal.code(), 1);
-            Ok(())
-        },
-    }
+fn parts(arc: Arc) -> (u16, u16) {
+    (arc.start(), arc.len())
 }
 
 #[test]
 fn limits_of_an_arc(rt: HostRuntime) -> Result<(), Fail> {
-    same(&rt, &Arc::new(3599, 3600)?, 3599, 3600)?;
-    same(&rt, &Arc::new(0, 1)?, 0, 1)?;
+    assert_eq!(rt; parts(Arc::new(3599, 3600)?), (3599, 3600));
+    assert_eq!(rt; parts(Arc::new(0, 1)?), (0, 1));
     refused(&rt, Arc::new(0, 0))?;
     refused(&rt, Arc::new(0, 3601))?;
     refused(&rt, Arc::new(3600, 1))
@@ -42,8 +22,8 @@ fn limits_of_an_arc(rt: HostRuntime) -> Result<(), Fail> {
 fn numbers_lead_back(rt: HostRuntime) -> Result<(), Fail> {
     let arc = Arc::new(3599, 3600)?;
     assert_eq!(rt; arc.number(), 14_745_104);
-    same(&rt, &Arc::from_number(14_745_104)?, 3599, 3600)?;
-    same(&rt, &Arc::from_number(1)?, 0, 1)?;
+    assert_eq!(rt; parts(Arc::from_number(14_745_104)?), (3599, 3600));
+    assert_eq!(rt; parts(Arc::from_number(1)?), (0, 1));
     refused(&rt, Arc::from_number(0))?;
     refused(&rt, Arc::from_number(4096))?;
     refused(&rt, Arc::from_number(3601))?;
@@ -73,8 +53,9 @@ fn arcs_that_wrap(rt: HostRuntime) -> Result<(), Fail> {
     assert!(rt; !arc.holds(2) && !arc.holds(3597) && !arc.holds(3600));
     assert!(rt; !arc.holds(4_294_967_295));
     let (low, high) = arc.halves()?;
-    same(&rt, &low, 3598, 2)?;
-    same(&rt, &high, 0, 2)
+    assert_eq!(rt; parts(low), (3598, 2));
+    assert_eq!(rt; parts(high), (0, 2));
+    Ok(())
 }
 
 #[test]
@@ -90,15 +71,17 @@ fn the_whole_circle(rt: HostRuntime) -> Result<(), Fail> {
     assert!(rt; across.is_within(&turned));
     assert!(rt; !circle.is_within(&turned));
     let (low, high) = turned.halves()?;
-    same(&rt, &low, 3599, 1800)?;
-    same(&rt, &high, 1799, 1800)
+    assert_eq!(rt; parts(low), (3599, 1800));
+    assert_eq!(rt; parts(high), (1799, 1800));
+    Ok(())
 }
 
 #[test]
 fn uneven_halves(rt: HostRuntime) -> Result<(), Fail> {
     let (low, high) = Arc::new(3599, 3)?.halves()?;
-    same(&rt, &low, 3599, 1)?;
-    same(&rt, &high, 0, 2)
+    assert_eq!(rt; parts(low), (3599, 1));
+    assert_eq!(rt; parts(high), (0, 2));
+    Ok(())
 }
 
 #[test]
@@ -106,14 +89,14 @@ fn strips_in_order(rt: HostRuntime) -> Result<(), Fail> {
     let whole = Arc::new(3590, 20)?;
     let inner = Arc::new(3598, 4)?;
     let mut strips = whole.strips(&inner)?;
-    is(&rt, strips.next(), 3590, 8)?;
-    is(&rt, strips.next(), 2, 8)?;
+    assert_eq!(rt; strips.next().map(parts), Some((3590, 8)));
+    assert_eq!(rt; strips.next().map(parts), Some((2, 8)));
     assert!(rt; strips.next().is_none());
     let mut strips = whole.strips(&Arc::new(3590, 4)?)?;
-    is(&rt, strips.next(), 3594, 16)?;
+    assert_eq!(rt; strips.next().map(parts), Some((3594, 16)));
     assert!(rt; strips.next().is_none());
     let mut strips = whole.strips(&Arc::new(8, 2)?)?;
-    is(&rt, strips.next(), 3590, 18)?;
+    assert_eq!(rt; strips.next().map(parts), Some((3590, 18)));
     assert!(rt; strips.next().is_none());
     let mut strips = whole.strips(&whole)?;
     assert!(rt; strips.next().is_none());
@@ -125,9 +108,12 @@ fn spans(rt: HostRuntime) -> Result<(), Fail> {
     let whole = Arc::new(3590, 20)?;
     let one = Arc::new(2, 3)?;
     let other = Arc::new(3595, 2)?;
-    is(&rt, whole.span(Some(one), Some(other))?, 3595, 10)?;
-    is(&rt, whole.span(None, Some(one))?, 2, 3)?;
-    is(&rt, whole.span(Some(one), None)?, 2, 3)?;
+    assert_eq!(rt;
+        whole.span(Some(one), Some(other))?.map(parts),
+        Some((3595, 10))
+    );
+    assert_eq!(rt; whole.span(None, Some(one))?.map(parts), Some((2, 3)));
+    assert_eq!(rt; whole.span(Some(one), None)?.map(parts), Some((2, 3)));
     assert!(rt; whole.span(None, None)?.is_none());
     refused(&rt, whole.span(None, Some(Arc::new(9, 2)?)))
 }
@@ -140,8 +126,8 @@ fn gatherings(rt: HostRuntime) -> Result<(), Fail> {
         Arc::new(12, 5)?.number(),
         Arc::new(100, 5)?.number(),
     ];
-    is(&rt, circle.gather(&members, 1)?, 10, 95)?;
-    is(&rt, circle.gather(&members, 2)?, 12, 3)?;
+    assert_eq!(rt; circle.gather(&members, 1)?.map(parts), Some((10, 95)));
+    assert_eq!(rt; circle.gather(&members, 2)?.map(parts), Some((12, 3)));
     assert!(rt; circle.gather(&members, 3)?.is_none());
     assert!(rt; circle.gather(&members, 4)?.is_none());
     assert!(rt; circle.gather(&[], 1)?.is_none());

@@ -9,3 +9,5 @@ pub mod rail;
 #[cfg(test)]
 mod rail_tests;
 pub mod rails;
+#[cfg(test)]
+mod refusals;

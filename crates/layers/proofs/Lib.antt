@@ -1,3 +1,4 @@
-pub mod Answering
+pub mod Asking
 pub mod Filling
 pub mod Turning
+pub mod Worth

@@ -1,13 +1,12 @@
--- The answers of a panel's members as numbers in a buffer, and what is gathered from them.
-use Rattle.std.specs.Prelude.{◌≡◌, ℕ, true, false, List, map, length, take, None, Option, nat_lt}
-use Rattle.domain.specs.Maps.{Maps}
+-- What calls by number answer.
+use Rattle.std.specs.Prelude.{◌≡◌, ℕ, ◌<◌, List, length, Result, MatchResult}
+use Rattle.std.specs.List.{HoldsAt}
+use Rattle.domain.specs.declared.refusal.Refusal.{Refusal}
 
--- the front of a buffer, as far as `filled`, has the numbers of the listed pieces
-pub record Numbered {P : Type 0} (d : Maps P) (ps : List P) (filled : ℕ) (buffer : List ℕ) : Type 0 where
-  pub size : length buffer ≡ 16
-  pub count : filled ≡ length ps
-  pub numbers : take filled buffer ≡ map d.number ps
+-- a call with a number below n is answered, by what V says
+abbrev pub Answered : {X : Type 0} → (ℕ → Result X Refusal → Type 0) → ℕ → (ℕ → X → Type 0) → Type 0
+Answered {X} calls n V = (k : ℕ) (r : Result X Refusal) → k < n → calls k r → MatchResult r (V k) (λ e. ⊥)
 
--- nothing where more than `most` answers are nothing; else what at least `depth` of the others hold
-abbrev pub gathered_from : {P : Type 0} → Maps P → P → List P → ℕ → ℕ → ℕ → Option P
-gathered_from d x ps nothings most depth = elim (nat_lt most nothings) [ true ↦ None | false ↦ d.gather x ps depth ]
+-- these are the answers, in order
+abbrev pub Told : {X : Type 0} → (ℕ → Result X Refusal → Type 0) → ℕ → List X → Type 0
+Told calls n os = (length os ≡ n) × Answered calls n (λ k o. HoldsAt (λ a. o ≡ a) os k)

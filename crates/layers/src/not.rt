@@ -2,7 +2,7 @@
 ghost use Rattle.std.specs.Prelude.{◌≡◌};
 ghost use Rattle.contractor.specs.Layers.{opposite};
 ghost use Rattle.contractor.specs.Rearranged.{Alike};
-ghost use Rattle.panels.specs.Panels.{means};
+ghost use Rattle.contractor.specs.Means.{means};
 ghost use Rattle.contractor.proofs.Joining.{not_sound};
 
 use contractor::contractor::Contractor;
@@ -16,7 +16,7 @@ impl<A: Contractor> Not<A> {
     // Twice has the same maps as none.
     pub fn new(inner: A) -> Not<A>
         ensures value { result.inner ≡ inner }
-        ensures twice { Alike (opposite (opposite (means A.Contractor.set A.Contractor.kept A.Contractor.dropped inner))) (means A.Contractor.set A.Contractor.kept A.Contractor.dropped inner) }
+        ensures twice { Alike (opposite (opposite (means A.Contractor inner))) (means A.Contractor inner) }
     {
         Not { inner }
     }
@@ -25,11 +25,11 @@ impl<A: Contractor> Not<A> {
 impl<A: Contractor> Contractor for Not<A> {
     type Piece = A::Piece;
 
-    ghost set = { λ c. (opposite (means A.Contractor.set A.Contractor.kept A.Contractor.dropped c.inner)).set };
+    ghost set = { λ c. (opposite (means A.Contractor c.inner)).set };
 
-    ghost kept = { λ c. (opposite (means A.Contractor.set A.Contractor.kept A.Contractor.dropped c.inner)).keep };
+    ghost kept = { λ c. (opposite (means A.Contractor c.inner)).keep };
 
-    ghost dropped = { λ c. (opposite (means A.Contractor.set A.Contractor.kept A.Contractor.dropped c.inner)).shed };
+    ghost dropped = { λ c. (opposite (means A.Contractor c.inner)).shed };
 
     ghost sound = { λ c. not_sound A.Piece.Domain.maps _ (A.Contractor.sound c.inner) };
 

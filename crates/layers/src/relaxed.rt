@@ -1,23 +1,23 @@
 // A panel of which up to q members may be wrong: the points that all members hold but for at most q.
 ghost use Rattle.std.specs.Prelude.{◌≡◌, ◌<◌, length, IfOk};
-ghost use Rattle.contractor.specs.Layers.{relaxed};
 ghost use Rattle.domain.specs.Refusals.{Given};
-ghost use Rattle.panels.specs.Panels.{relaxed_over};
+ghost use Rattle.contractor.specs.Layers.{relaxed};
+ghost use Rattle.contractor.specs.Means.{means};
 ghost use Rattle.layers.specs.Facts.{Extremes};
-ghost use Rattle.layers.specs.Relaxing.{relaxed_over_sound};
+ghost use Rattle.contractor.proofs.Relaxing.{relaxed_sound};
 
-use crate::relaxed::answers::{gathered, kept_numbers, shed_numbers};
+use crate::relaxed::answers::gathered;
 use contractor::contractor::Contractor;
-use domain::domain::Domain;
 use domain::refusal::Refusal;
 use panels::panel::Panel;
 
 mod answers;
 
 #[derive(Drop)]
-pub struct Relaxed<P> {
+pub struct Relaxed<P: Panel> {
     panel: P,
     liars: usize,
+    ghost below: { liars < length (P.Panel.members panel) },
 }
 
 impl<P: Panel + Drop> Relaxed<P> {
@@ -25,7 +25,7 @@ impl<P: Panel + Drop> Relaxed<P> {
     // Refused with 8 unless `liars` is below the number of members; the panel is spent either way.
     pub fn new(panel: P, liars: usize) -> Result<Relaxed<P>, Refusal>
         ensures parts { Given result 8 (liars < length (P.Panel.members panel)) (λ c. (c.panel ≡ panel) × (c.liars ≡ liars)) }
-        ensures means { IfOk result (λ c. relaxed_over P.Piece.Domain.maps c.liars (P.Panel.members c.panel) ≡ relaxed P.Piece.Domain.maps liars (P.Panel.members panel)) }
+        ensures means { IfOk result (λ c. means ⟦<Relaxed<P> as Contractor>⟧ c ≡ relaxed P.Piece.Domain.maps liars (P.Panel.members panel)) }
         ensures extremes { Extremes P.Piece.Domain.maps (P.Panel.members panel) }
     {
         if liars >= panel.count() {
@@ -38,26 +38,22 @@ impl<P: Panel + Drop> Relaxed<P> {
 impl<P: Panel> Contractor for Relaxed<P> {
     type Piece = P::Piece;
 
-    ghost set = { λ c. (relaxed_over P.Piece.Domain.maps c.liars (P.Panel.members c.panel)).set };
+    ghost set = { λ c. (relaxed P.Piece.Domain.maps c.liars (P.Panel.members c.panel)).set };
 
-    ghost kept = { λ c. (relaxed_over P.Piece.Domain.maps c.liars (P.Panel.members c.panel)).keep };
+    ghost kept = { λ c. (relaxed P.Piece.Domain.maps c.liars (P.Panel.members c.panel)).keep };
 
-    ghost dropped = { λ c. (relaxed_over P.Piece.Domain.maps c.liars (P.Panel.members c.panel)).shed };
+    ghost dropped = { λ c. (relaxed P.Piece.Domain.maps c.liars (P.Panel.members c.panel)).shed };
 
-    ghost sound = { λ c. relaxed_over_sound P.Piece.Domain.maps P.Piece.Domain.lawful c.liars (P.Panel.members c.panel) (P.Panel.sound c.panel) };
+    ghost sound = { λ c.
+        relaxed_sound P.Piece.Domain.maps P.Piece.Domain.lawful c.liars (P.Panel.members c.panel) c.below
+        (P.Panel.sound c.panel) };
 
-    // Nothing that `new` makes has as many liars as members.
     fn keep(&self, piece: &P::Piece) -> Option<P::Piece> {
         let count = self.panel.count();
-        if self.liars >= count {
-            return Some(*piece);
-        }
-        let mut numbers = [0u64; 16];
-        let filled = kept_numbers(&self.panel, piece, &mut numbers);
         gathered(
             piece,
-            &numbers[..filled],
-            count - filled,
+            count,
+            |member| self.panel.keep(member, piece),
             self.liars,
             count - self.liars,
         )
@@ -65,15 +61,10 @@ impl<P: Panel> Contractor for Relaxed<P> {
 
     fn shed(&self, piece: &P::Piece) -> Option<P::Piece> {
         let count = self.panel.count();
-        if self.liars >= count {
-            return None;
-        }
-        let mut numbers = [0u64; 16];
-        let filled = shed_numbers(&self.panel, piece, &mut numbers);
         gathered(
             piece,
-            &numbers[..filled],
-            count - filled,
+            count,
+            |member| self.panel.shed(member, piece),
             count - self.liars - 1,
             self.liars + 1,
         )

@@ -1,2 +1,4 @@
-pub mod Openings
 pub mod Computed
+pub mod Equal
+pub mod Found
+pub mod Offsets

@@ -1,6 +1,6 @@
 -- A cone keeps the laws of a contractor.
 use Rattle.std.specs.Prelude.{◌≡◌, ℕ, ◌≤◌, min, true, not, ◌&&◌, ◌||◌, ◌⊎◌, ℤ, pos, ◌-ℤ◌, ◌*ℤ◌, ◌≤ℤ◌, int_le, int_lt}
-use Rattle.std.proofs.Common.{arith, inl, inr, ap₂, ◌∙◌}
+use Rattle.std.proofs.Common.{arith, inl, inr, sym, ap, ap₂, ◌∙◌}
 use Rattle.std.specs.Int.{int_max, int_min}
 use Rattle.std.proofs.lemmas.Int.{ints, clamps, by_lt_z}
 use Rattle.scan.specs.declared.stretch.Stretch.{Stretch}
@@ -10,7 +10,6 @@ use Rattle.leaves.specs.Cones.{offset, in_cone, cone_set, ahead, behind, keeps, 
 use Rattle.leaves.specs.Extremes.{least_signed, greatest_signed}
 use Rattle.leaves.specs.Judged.{Test}
 use Rattle.leaves.specs.declared.cone.Cone.{Cone}
-use Rattle.leaves.specs.declared.cone.runs.Slopes.{Slopes}
 use Rattle.leaves.specs.Judging.{Sees, judged_sound}
 use Rattle.leaves.specs.Products.{between_ends}
 use Rattle.leaves.specs.SignedExtremes.{least_bound, greatest_bound, least_is, greatest_is, least_one, greatest_one}
@@ -34,35 +33,35 @@ shed_alone p q = grind (arith, ints)
 
 module _ (c : Cone) where
   abbrev columns_keep : Test
-  columns_keep = keeps c.ux c.uy c.vy c.vx c.bx c.by
+  columns_keep = keeps c.u.x c.u.y c.v.y c.v.x c.beacon.x c.beacon.y
 
   abbrev rows_keep : Test
-  rows_keep = keeps c.vy c.vx c.ux c.uy c.by c.bx
+  rows_keep = keeps c.v.y c.v.x c.u.x c.u.y c.beacon.y c.beacon.x
 
   abbrev columns_shed : Test
-  columns_shed = sheds c.ux c.uy c.vy c.vx c.bx c.by
+  columns_shed = sheds c.u.x c.u.y c.v.y c.v.x c.beacon.x c.beacon.y
 
   abbrev rows_shed : Test
-  rows_shed = sheds c.vy c.vx c.ux c.uy c.by c.bx
+  rows_shed = sheds c.v.y c.v.x c.u.x c.u.y c.beacon.y c.beacon.x
 
   keep_sees : Sees (in_cone c) columns_keep rows_keep
   keep_sees = record {
     by_rows = λ s x y low high e.
-        keep_live _ _ _ _ (greatest_bound (ahead c.ux c.uy c.bx c.by x) s y low high) (greatest_bound (behind c.vy c.vx c.bx c.by x) s y low high) e;
+        keep_live _ _ _ _ (greatest_bound (ahead c.u.x c.u.y c.beacon.x c.beacon.y x) s y low high) (greatest_bound (behind c.v.y c.v.x c.beacon.x c.beacon.y x) s y low high) e;
     by_columns = λ s x y low high e.
-        keep_turned _ _ _ _ (greatest_bound (ahead c.vy c.vx c.by c.bx y) s x low high) (greatest_bound (behind c.ux c.uy c.by c.bx y) s x low high) e;
-    alone = λ x y. ap₂ (λ m n. int_le (pos 0) m && int_le (pos 0) n) (greatest_one (ahead c.ux c.uy c.bx c.by x) y) (greatest_one (behind c.vy c.vx c.bx c.by x) y);
+        keep_turned _ _ _ _ (greatest_bound (ahead c.v.y c.v.x c.beacon.y c.beacon.x y) s x low high) (greatest_bound (behind c.u.x c.u.y c.beacon.y c.beacon.x y) s x low high) e;
+    alone = λ x y. ap₂ (λ m n. int_le (pos 0) m && int_le (pos 0) n) (greatest_one (ahead c.u.x c.u.y c.beacon.x c.beacon.y x) y) (greatest_one (behind c.v.y c.v.x c.beacon.x c.beacon.y x) y);
   }
 
   shed_sees : Sees (λ x y. not (in_cone c x y)) columns_shed rows_shed
   shed_sees = record {
     by_rows = λ s x y low high e.
-        shed_live _ _ _ _ (least_bound (ahead c.ux c.uy c.bx c.by x) s y low high) (least_bound (behind c.vy c.vx c.bx c.by x) s y low high) e;
+        shed_live _ _ _ _ (least_bound (ahead c.u.x c.u.y c.beacon.x c.beacon.y x) s y low high) (least_bound (behind c.v.y c.v.x c.beacon.x c.beacon.y x) s y low high) e;
     by_columns = λ s x y low high e.
-        shed_turned _ _ _ _ (least_bound (ahead c.vy c.vx c.by c.bx y) s x low high) (least_bound (behind c.ux c.uy c.by c.bx y) s x low high) e;
+        shed_turned _ _ _ _ (least_bound (ahead c.v.y c.v.x c.beacon.y c.beacon.x y) s x low high) (least_bound (behind c.u.x c.u.y c.beacon.y c.beacon.x y) s x low high) e;
     alone = λ x y.
-        ap₂ (λ m n. int_lt m (pos 0) || int_lt n (pos 0)) (least_one (ahead c.ux c.uy c.bx c.by x) y) (least_one (behind c.vy c.vx c.bx c.by x) y)
-        ∙ shed_alone (ahead c.ux c.uy c.bx c.by x y) (behind c.vy c.vx c.bx c.by x y);
+        ap₂ (λ m n. int_lt m (pos 0) || int_lt n (pos 0)) (least_one (ahead c.u.x c.u.y c.beacon.x c.beacon.y x) y) (least_one (behind c.v.y c.v.x c.beacon.x c.beacon.y x) y)
+        ∙ shed_alone (ahead c.u.x c.u.y c.beacon.x c.beacon.y x y) (behind c.v.y c.v.x c.beacon.x c.beacon.y x y);
   }
 
   pub cone_sound : Sound plane (meaning (cone_set c) (cone_kept c) (cone_dropped c))
@@ -120,28 +119,25 @@ module _ (p q along across : ℤ) (s : Stretch) (some : s.low ≤ s.high) (i : �
       (λ j low high. from_least (p *ℤ offset across s.low) (p *ℤ offset across s.high) (q *ℤ offset along i) (p *ℤ offset across j) (between_ends p across s j low high).1)
       (from_least_end (p *ℤ offset across s.low) (p *ℤ offset across s.high) (q *ℤ offset along i))
 
--- the code's tests are the rules' on the plane
-module _ (t : Slopes) (p q r v along across : ℤ) (by : Stretch) (some : by.low ≤ by.high) (i : ℕ) (h : i ≤ 4095) where
-  at : t.along ≡ along → offset t.along (min i 4095) ≡ offset along i
-  at e = ap₂ (λ (b : ℤ) (k : ℕ). offset b k) e (omega arith)
+-- the test of a column by the extremes over the rows is the rule for keep on the plane; with the other extremes, its
+-- opposite is that for shed
+module _ (p q r v along across : ℤ) (by : Stretch) (some : by.low ≤ by.high) (first second : ℤ) (i : ℕ) (h : i ≤ 4095) where
+  at : offset along (min i 4095) ≡ offset along i
+  at = ap (λ (k : ℕ). offset along k) (omega arith)
 
-  pub record Numbers : Type 0 where
-    pub own : t.along ≡ along
-    pub taken_is : t.taken ≡ q
-    pub given_is : t.given ≡ r
+  ahead_is : (m : ℤ) → first ≡ m → (first -ℤ q *ℤ offset along (min i 4095)) ≡ (m -ℤ q *ℤ offset along i)
+  ahead_is m e = ap₂ (λ a b. a -ℤ q *ℤ b) e at
 
-  ahead_is : Numbers → (m : ℤ) → t.first ≡ m → (t.first -ℤ t.taken *ℤ offset t.along (min i 4095)) ≡ (m -ℤ q *ℤ offset along i)
-  ahead_is u m e = ap₂ (λ a b. a -ℤ b) e (ap₂ (λ a b. a *ℤ b) u.taken_is (at u.own))
+  behind_is : (m : ℤ) → second ≡ m → (r *ℤ offset along (min i 4095) -ℤ second) ≡ (r *ℤ offset along i -ℤ m)
+  behind_is m e = ap₂ (λ a b. r *ℤ a -ℤ b) at e
 
-  behind_is : Numbers → (m : ℤ) → t.second ≡ m → (t.given *ℤ offset t.along (min i 4095) -ℤ t.second) ≡ (r *ℤ offset along i -ℤ m)
-  behind_is u m e = ap₂ (λ a b. a -ℤ b) (ap₂ (λ a b. a *ℤ b) u.given_is (at u.own)) e
+  pub keeps_same : first ≡ most p across by → second ≡ fewest v across by → (int_le (pos 0) (first -ℤ q *ℤ offset along (min i 4095)) && int_le (pos 0) (r *ℤ offset along (min i 4095) -ℤ second)) ≡ keeps p q r v along across by i
+  keeps_same e f =
+      ap₂ (λ a b. int_le (pos 0) a && int_le (pos 0) b) (ahead_is (most p across by) e ∙ ahead_greatest p q along across by some i)
+      (behind_is (fewest v across by) f ∙ behind_greatest v r along across by some i)
 
-  pub keeps_same : Numbers → t.first ≡ most p across by → t.second ≡ fewest v across by → (int_le (pos 0) (t.first -ℤ t.taken *ℤ offset t.along (min i 4095)) && int_le (pos 0) (t.given *ℤ offset t.along (min i 4095) -ℤ t.second)) ≡ keeps p q r v along across by i
-  keeps_same u e f =
-      ap₂ (λ a b. int_le (pos 0) a && int_le (pos 0) b) (ahead_is u (most p across by) e ∙ ahead_greatest p q along across by some i)
-      (behind_is u (fewest v across by) f ∙ behind_greatest v r along across by some i)
-
-  pub sheds_same : Numbers → t.first ≡ fewest p across by → t.second ≡ most v across by → (int_lt (t.first -ℤ t.taken *ℤ offset t.along (min i 4095)) (pos 0) || int_lt (t.given *ℤ offset t.along (min i 4095) -ℤ t.second) (pos 0)) ≡ sheds p q r v along across by i
-  sheds_same u e f =
-      ap₂ (λ a b. int_lt a (pos 0) || int_lt b (pos 0)) (ahead_is u (fewest p across by) e ∙ ahead_least p q along across by some i)
-      (behind_is u (most v across by) f ∙ behind_least v r along across by some i)
+  pub sheds_same : first ≡ fewest p across by → second ≡ most v across by → not (int_le (pos 0) (first -ℤ q *ℤ offset along (min i 4095)) && int_le (pos 0) (r *ℤ offset along (min i 4095) -ℤ second)) ≡ sheds p q r v along across by i
+  sheds_same e f =
+      ap₂ (λ a b. not (int_le (pos 0) a && int_le (pos 0) b)) (ahead_is (fewest p across by) e ∙ ahead_least p q along across by some i)
+      (behind_is (most v across by) f ∙ behind_least v r along across by some i)
+      ∙ sym (shed_alone (least_signed (ahead p q along across i) by) (least_signed (behind r v along across i) by))

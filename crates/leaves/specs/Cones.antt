@@ -21,8 +21,8 @@ side p q d e = p *ℤ d -ℤ q *ℤ e
 -- column x and row y: ux·dy − uy·dx ≥ 0 and vy·dx − vx·dy ≥ 0
 abbrev pub in_cone : Cone → ℕ → ℕ → Bool
 in_cone c x y =
-    int_le (pos 0) (side c.ux c.uy (offset c.by y) (offset c.bx x))
-    && int_le (pos 0) (side c.vy c.vx (offset c.bx x) (offset c.by y))
+    int_le (pos 0) (side c.u.x c.u.y (offset c.beacon.y y) (offset c.beacon.x x))
+    && int_le (pos 0) (side c.v.y c.v.x (offset c.beacon.x x) (offset c.beacon.y y))
 
 abbrev pub cone_set : Cone → ℕ → Bool
 cone_set c n = in_cone c (n % 4096) (n / 4096)
@@ -56,11 +56,11 @@ fewest p across s = int_min (p *ℤ offset across s.low) (p *ℤ offset across s
 -- columns by rows; then rows by columns, where the second product sum has the columns in front
 abbrev pub cone_kept : Cone → PlaneBox → Option PlaneBox
 cone_kept c x =
-    judged (keeps c.ux c.uy c.vy c.vx c.bx c.by) (keeps c.vy c.vx c.ux c.uy c.by c.bx) x
+    judged (keeps c.u.x c.u.y c.v.y c.v.x c.beacon.x c.beacon.y) (keeps c.v.y c.v.x c.u.x c.u.y c.beacon.y c.beacon.x) x
 
 abbrev pub cone_dropped : Cone → PlaneBox → Option PlaneBox
 cone_dropped c x =
-    judged (sheds c.ux c.uy c.vy c.vx c.bx c.by) (sheds c.vy c.vx c.ux c.uy c.by c.bx) x
+    judged (sheds c.u.x c.u.y c.v.y c.v.x c.beacon.x c.beacon.y) (sheds c.v.y c.v.x c.u.x c.u.y c.beacon.y c.beacon.x) x
 
 -- the numbers that make a cone: a beacon and two directions in their ranges, and ux·vy − uy·vx above 0
 abbrev pub IsDirection : ℤ → ℤ → Type 0
@@ -78,12 +78,12 @@ IsOpen ux uy vx vy = pos 0 <ℤ side ux uy vy vx
 
 -- a cone has these numbers
 pub record HasNumbers (bx by ux uy vx vy : ℤ) (c : Cone) : Type 0 where
-  pub bx_is : c.bx ≡ bx
-  pub by_is : c.by ≡ by
-  pub ux_is : c.ux ≡ ux
-  pub uy_is : c.uy ≡ uy
-  pub vx_is : c.vx ≡ vx
-  pub vy_is : c.vy ≡ vy
+  pub bx_is : c.beacon.x ≡ bx
+  pub by_is : c.beacon.y ≡ by
+  pub ux_is : c.u.x ≡ ux
+  pub uy_is : c.u.y ≡ uy
+  pub vx_is : c.v.x ≡ vx
+  pub vy_is : c.v.y ≡ vy
 
 -- refused with 3 just when a number is beyond its range, with 5 just when none is and the product is not above 0
 abbrev pub ConeMade : (bx by ux uy vx vy : ℤ) → Result Cone Refusal → Type 0

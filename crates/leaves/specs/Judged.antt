@@ -1,8 +1,10 @@
 -- Columns judged by the rows of a box, then rows judged by the columns just kept.
-use Rattle.std.specs.Prelude.{ℕ, ◌≤◌, Bool, IfSome, Some, None, Option}
+use Rattle.std.specs.Prelude.{◌≡◌, ℕ, ◌≤◌, Bool, Some, None, Option}
 use Rattle.scan.specs.Live.{run}
 use Rattle.scan.specs.declared.stretch.Stretch.{Stretch}
 use Rattle.plane.specs.declared.plane_box.PlaneBox.{PlaneBox}
+use Rattle.plane.specs.declared.span.Span.{Span}
+use Rattle.plane.specs.Spans.{stretch}
 use Rattle.plane.specs.Boxes.{rows, wide, tall, crossed}
 
 -- whether a column is live, by a stretch of rows; or a row, by a stretch of columns
@@ -11,21 +13,21 @@ Test = Stretch → ℕ → Bool
 
 -- from the first to the last live column, judged by the rows of x
 abbrev pub live_columns : Test → PlaneBox → Option Stretch
-live_columns f x = run (f (rows x)) x.x0 (wide x)
+live_columns f x = run (f (rows x)) x.columns.low (wide x)
 
 -- from the first to the last live row, judged by the columns kept
 abbrev pub live_rows : Test → PlaneBox → Option Stretch → Option Stretch
 live_rows g x None = None
-live_rows g x (Some c) = run (g c) x.y0 (tall x)
+live_rows g x (Some c) = run (g c) x.rows.low (tall x)
 
 -- the box of both; nothing if no column or no row is live
 abbrev pub judged : Test → Test → PlaneBox → Option PlaneBox
 judged f g x = crossed (live_columns f x) (live_rows g x (live_columns f x))
 
--- a stretch of at least one column or row of the plane
-abbrev pub OnPlane : Stretch → Type 0
-OnPlane s = (s.low ≤ s.high) × (s.high ≤ 4095)
+-- two tests are the same on the plane
+abbrev pub SameOnPlane : (ℕ → Bool) → (ℕ → Bool) → Type 0
+SameOnPlane p q = (i : ℕ) → i ≤ 4095 → p i ≡ q i
 
--- nothing, or such a stretch
-abbrev pub Short : Option Stretch → Type 0
-Short o = IfSome o OnPlane
+-- what is made of a reading and a span tests as f says of them
+abbrev pub Makes : {R T : Type 0} → (R → Span → T → Type 0) → (T → ℕ → Bool) → (R → Test) → Type 0
+Makes {R} {T} made live f = (r : R) (s : Span) (t : T) → made r s t → SameOnPlane (live t) (f r (stretch s))

@@ -76,33 +76,16 @@ product_is a b d e x y h k =
     let back = to_z-of_z w32 (d *ℤ e) fits in
     (fits, back ∙ same, subst (λ z. unsigned_abs z ≤ 75495424) (sym back) size)
 
--- the extremes of two numbers, each read from its bits
-pub greatest_is : (l h a b m : ℤ) → unsigned_abs a ≤ 75495424 → unsigned_abs b ≤ 75495424 → a ≡ l → b ≡ h → m ≡ int_max (to_z w32 (of_z w32 a)) (to_z w32 (of_z w32 b)) → (to_z w32 (of_z w32 m) ≡ int_max l h) × (unsigned_abs (to_z w32 (of_z w32 m)) ≤ 75495424)
-greatest_is l h a b m i j x y e =
-    let f : m ≡ int_max a b = e ∙ ap₂ int_max (to_z-of_z w32 a (small_fits a i)) (to_z-of_z w32 b (small_fits b j)) in
-    let s : unsigned_abs m ≤ 75495424 = omega (arith, ints, clamps) in
-    let back = to_z-of_z w32 m (small_fits m s) in
-    (back ∙ f ∙ ap₂ int_max x y, subst (λ z. unsigned_abs z ≤ 75495424) (sym back) s)
+small_difference : (a b : ℤ) → unsigned_abs a ≤ 75495424 → unsigned_abs b ≤ 75495424 → FitsSigned w32 (a -ℤ b)
+small_difference a b h k = omega (arith, ints)
 
-pub least_is : (l h a b m : ℤ) → unsigned_abs a ≤ 75495424 → unsigned_abs b ≤ 75495424 → a ≡ l → b ≡ h → m ≡ int_min (to_z w32 (of_z w32 a)) (to_z w32 (of_z w32 b)) → (to_z w32 (of_z w32 m) ≡ int_min l h) × (unsigned_abs (to_z w32 (of_z w32 m)) ≤ 75495424)
-least_is l h a b m i j x y e =
-    let f : m ≡ int_min a b = e ∙ ap₂ int_min (to_z-of_z w32 a (small_fits a i)) (to_z-of_z w32 b (small_fits b j)) in
-    let s : unsigned_abs m ≤ 75495424 = omega (arith, ints, clamps) in
-    let back = to_z-of_z w32 m (small_fits m s) in
-    (back ∙ f ∙ ap₂ int_min x y, subst (λ z. unsigned_abs z ≤ 75495424) (sym back) s)
-
--- the difference of two numbers, each read from its bits
-pub difference_is : (a b : ℤ) → unsigned_abs a ≤ 75495424 → unsigned_abs b ≤ 75495424 → FitsSigned w32 (to_z w32 (of_z w32 a) -ℤ to_z w32 (of_z w32 b)) × (to_z w32 (of_z w32 (to_z w32 (of_z w32 a) -ℤ to_z w32 (of_z w32 b))) ≡ a -ℤ b)
-difference_is a b h k =
-    let same : to_z w32 (of_z w32 a) -ℤ to_z w32 (of_z w32 b) ≡ a -ℤ b = ap₂ ◌-ℤ◌ (to_z-of_z w32 a (small_fits a h)) (to_z-of_z w32 b (small_fits b k)) in
-    let fits : FitsSigned w32 (a -ℤ b) = omega (arith, ints) in
-    let part = subst (FitsSigned w32) (sym same) fits in
-    (part, to_z-of_z w32 (to_z w32 (of_z w32 a) -ℤ to_z w32 (of_z w32 b)) part ∙ same)
+-- the difference of two products of numbers of directions, each number read from its bits
+pub cross_is : (a b d e p q r s : ℤ) → p ≡ a → q ≡ b → r ≡ d → s ≡ e → unsigned_abs a ≤ 2048 → unsigned_abs b ≤ 2048 → unsigned_abs d ≤ 2048 → unsigned_abs e ≤ 2048 → FitsSigned w32 (to_z w32 (of_z w32 (p *ℤ q)) -ℤ to_z w32 (of_z w32 (r *ℤ s))) × (to_z w32 (of_z w32 (to_z w32 (of_z w32 (p *ℤ q)) -ℤ to_z w32 (of_z w32 (r *ℤ s)))) ≡ a *ℤ b -ℤ d *ℤ e)
+cross_is a b d e p q r s f g i j k l m n =
+    let x = product_is a b p q f g k (omega arith) in
+    let y = product_is d e r s i j m (omega arith) in
+    let fits = small_difference (to_z w32 (of_z w32 (p *ℤ q))) (to_z w32 (of_z w32 (r *ℤ s))) x.2 y.2 in
+    (fits, to_z-of_z w32 (to_z w32 (of_z w32 (p *ℤ q)) -ℤ to_z w32 (of_z w32 (r *ℤ s))) fits ∙ ap₂ ◌-ℤ◌ x.1 y.1)
 
 pub above_decides : (z s : ℤ) → z ≡ s → Decides (int_lt (pos 0) z) (pos 0 <ℤ s)
 above_decides z s e = (λ h. grind (arith, ints), λ h. grind (arith, ints))
-
--- a cone turned over is as open
-pub turned_opens : (a b c d p q r s : ℤ) → p ≡ a → q ≡ b → r ≡ c → s ≡ d → pos 0 <ℤ (a *ℤ d -ℤ b *ℤ c) → pos 0 <ℤ (s *ℤ p -ℤ r *ℤ q)
-turned_opens a b c d p q r s i j k l h =
-    subst (λ z. pos 0 <ℤ z) (ap₂ ◌-ℤ◌ (*ℤ_comm a d ∙ ap₂ ◌*ℤ◌ (sym l) (sym i)) (*ℤ_comm b c ∙ ap₂ ◌*ℤ◌ (sym k) (sym j))) h

@@ -25,8 +25,8 @@ farthest b s = greatest_over (distance b) s
 -- column x and row y: a² ≤ dx² + dy² ≤ b²
 abbrev pub in_ring : Ring → ℕ → ℕ → Bool
 in_ring r x y =
-    nat_le (square r.inner) (square (distance r.bx x) + square (distance r.by y))
-    && nat_le (square (distance r.bx x) + square (distance r.by y)) (square r.outer)
+    nat_le (square r.inner) (square (distance r.beacon.x x) + square (distance r.beacon.y y))
+    && nat_le (square (distance r.beacon.x x) + square (distance r.beacon.y y)) (square r.outer)
 
 abbrev pub ring_set : Ring → ℕ → Bool
 ring_set r n = in_ring r (n % 4096) (n / 4096)
@@ -44,10 +44,10 @@ sheds a b along across s i =
     || nat_lt (square b) (square (distance along i) + square (farthest across s))
 
 abbrev pub ring_kept : Ring → PlaneBox → Option PlaneBox
-ring_kept r x = judged (keeps r.inner r.outer r.bx r.by) (keeps r.inner r.outer r.by r.bx) x
+ring_kept r x = judged (keeps r.inner r.outer r.beacon.x r.beacon.y) (keeps r.inner r.outer r.beacon.y r.beacon.x) x
 
 abbrev pub ring_dropped : Ring → PlaneBox → Option PlaneBox
-ring_dropped r x = judged (sheds r.inner r.outer r.bx r.by) (sheds r.inner r.outer r.by r.bx) x
+ring_dropped r x = judged (sheds r.inner r.outer r.beacon.x r.beacon.y) (sheds r.inner r.outer r.beacon.y r.beacon.x) x
 
 -- the numbers that make a ring: a beacon in its range, and 0 ≤ a ≤ b ≤ 32,767
 abbrev pub IsBeacon : ℤ → ℤ → Type 0
@@ -58,7 +58,7 @@ AreRadii a b = (pos 0 ≤ℤ a) × (a ≤ℤ b) × (b ≤ℤ pos 32767)
 
 -- a ring has these numbers
 abbrev pub HasNumbers : ℤ → ℤ → ℤ → ℤ → Ring → Type 0
-HasNumbers bx by a b r = (r.bx ≡ bx) × (r.by ≡ by) × (pos r.inner ≡ a) × (pos r.outer ≡ b)
+HasNumbers bx by a b r = (r.beacon.x ≡ bx) × (r.beacon.y ≡ by) × (pos r.inner ≡ a) × (pos r.outer ≡ b)
 
 -- refused with 3 just when the beacon is beyond its range, with 4 just when it is not and the radii are wrong
 abbrev pub RingMade : ℤ → ℤ → ℤ → ℤ → Result Ring Refusal → Type 0

@@ -8,7 +8,9 @@ use Rattle.plane.specs.Boxes.{box_of}
 use Rattle.leaves.specs.Arcs.{kept, dropped}
 use Rattle.leaves.specs.Cones.{cone_kept, cone_dropped}
 use Rattle.leaves.specs.Rings.{ring_kept, ring_dropped}
+use Rattle.leaves.specs.declared.beacon.Beacon.{Beacon}
 use Rattle.leaves.specs.declared.cone.Cone.{Cone}
+use Rattle.leaves.specs.declared.cone.direction.Direction.{Direction}
 use Rattle.leaves.specs.declared.ring.Ring.{Ring}
 
 -- what a map makes of a piece, if it is one
@@ -21,44 +23,30 @@ abbrev pub arc_map : (Arc → Arc → Option Arc) → Option Arc → Option Arc 
 arc_map f None x = None
 arc_map f (Some a) x = of (f a) x
 
+-- the beacon 0,0
+abbrev pub corner : Beacon
+corner = record { x = pos 0; y = pos 0; west = le_z_yes tt; east = le_z_yes tt; south = le_z_yes tt; north = le_z_yes tt }
+
 -- the ring 0,0,a,b
 abbrev pub ring_around : (a b : ℕ) → a ≤ b → b ≤ 32767 → Ring
 ring_around a b p q = record {
-  bx = pos 0;
-  by = pos 0;
+  beacon = corner;
   inner = a;
   outer = b;
-  west = le_z_yes tt;
-  east = le_z_yes tt;
-  south = le_z_yes tt;
-  north = le_z_yes tt;
   ordered = p;
   most = q;
 }
 
+-- the directions 1,0 and 1,1
+abbrev pub level : Direction
+level = record { x = pos 1; y = pos 0; x_least = le_z_yes tt; x_most = le_z_yes tt; y_least = le_z_yes tt; y_most = le_z_yes tt }
+
+abbrev pub slanting : Direction
+slanting = record { x = pos 1; y = pos 1; x_least = le_z_yes tt; x_most = le_z_yes tt; y_least = le_z_yes tt; y_most = le_z_yes tt }
+
 -- the cone 0,0,1,0,1,1
 abbrev pub eighth : Cone
-eighth = record {
-  bx = pos 0;
-  by = pos 0;
-  ux = pos 1;
-  uy = pos 0;
-  vx = pos 1;
-  vy = pos 1;
-  west = le_z_yes tt;
-  east = le_z_yes tt;
-  south = le_z_yes tt;
-  north = le_z_yes tt;
-  ux_least = le_z_yes tt;
-  ux_most = le_z_yes tt;
-  uy_least = le_z_yes tt;
-  uy_most = le_z_yes tt;
-  vx_least = le_z_yes tt;
-  vx_most = le_z_yes tt;
-  vy_least = le_z_yes tt;
-  vy_most = le_z_yes tt;
-  opens = lt_z_yes tt;
-}
+eighth = record { beacon = corner; u = level; v = slanting; opens = lt_z_yes tt }
 
 pub record WorkedRing : Type 0 where
   -- ring 0,0,0,3 on 0,0,3,3 keeps all and sheds 1,1,3,3

@@ -2,7 +2,11 @@
 #![tactic(auto)]
 
 pub mod arc;
+mod beacon;
+mod bounds;
 pub mod cone;
-mod crossing;
+mod judged;
+mod offset;
+mod opposite;
 pub mod plane_reading;
 pub mod ring;

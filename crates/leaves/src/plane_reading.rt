@@ -1,4 +1,5 @@
 // A reading of the plane: a ring or a cone.
+ghost use Rattle.std.specs.Prelude.{◌≡◌};
 ghost use Rattle.leaves.specs.Readings.{reading_set, reading_kept, reading_dropped};
 ghost use Rattle.leaves.specs.declared.plane_reading.PlaneReading.TheVariants.{Ring, Cone};
 ghost use Rattle.leaves.specs.ConeLaws.{cone_sound};
@@ -13,6 +14,22 @@ use plane::plane_box::PlaneBox;
 pub enum PlaneReading {
     Ring(Ring),
     Cone(Cone),
+}
+
+impl From<Ring> for PlaneReading {
+    ghost from_gives = { λ ring reading. reading ≡ Ring ring };
+
+    fn from(ring: Ring) -> Self {
+        Self::Ring(ring)
+    }
+}
+
+impl From<Cone> for PlaneReading {
+    ghost from_gives = { λ cone reading. reading ≡ Cone cone };
+
+    fn from(cone: Cone) -> Self {
+        Self::Cone(cone)
+    }
 }
 
 impl Contractor for PlaneReading {

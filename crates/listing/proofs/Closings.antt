@@ -1,5 +1,7 @@
 -- A listing's end: nothing waits, all records are written, and a tally gives the sums.
 use Rattle.std.proofs.Common.{◌≡◌, ℕ, List, [], ◌++◌, Option, sym, ap, ◌∙◌, subst}
+use Rattle.domain.specs.declared.domain.Domain
+use Rattle.contractor.specs.declared.contractor.Contractor
 use Rattle.std.proofs.lemmas.List.{append-nil, take-append-drop}
 use Rattle.domain.specs.Laws.{Laws}
 use Rattle.domain.specs.Maps.{Maps}
@@ -22,7 +24,7 @@ use Rattle.listing.proofs.Grounds.{listing}
 all_gone : {P : Type 0} (x : State P) → roll x ≡ [] → gone x ≡ x.made
 all_gone x e = sym (append-nil (gone x)) ∙ ap (λ rs. gone x ++ rs) (sym e) ∙ take-append-drop x.taken x.made
 
-module _ {C P : Type 0} (d : Maps P) (m : C → Meaning P) (display : P → Option (List ℕ)) (s v : Sheet C P) (text : List ℕ) (w : Paved d m display s v text) (c : C) (start : P) (grain : Grain) (o : task_of d m s ≡ task d (m c) start grain.size) where
+module _ {C P : Type 0} {g : Contractor.Ghosts C P} {e : Domain.Ghosts P} (d : Maps P) (m : C → Meaning P) (display : P → Option (List ℕ)) (s v : Sheet C P g e) (text : List ℕ) (w : Paved d m display s v text) (c : C) (start : P) (grain : Grain) (o : task_of d m s ≡ task d (m c) start grain.size) where
   same : task_of d m v ≡ task d (m c) start grain.size
   same = same_task d m s v w.same ∙ o
 

@@ -1,5 +1,7 @@
 -- Rounds of a run and takes: each brings the paving on, until nothing waits.
 use Rattle.std.proofs.Common.{◌≡◌, ℕ, ◌-◌, ◌*◌, ◌<◌, List, [], Some, Option, sym, ap, ◌∙◌, arith}
+use Rattle.domain.specs.declared.domain.Domain
+use Rattle.contractor.specs.declared.contractor.Contractor
 use Rattle.std.proofs.lemmas.List.{append-nil}
 use Rattle.domain.specs.Laws.{Laws}
 use Rattle.domain.specs.Maps.{Maps}
@@ -20,7 +22,7 @@ use Rattle.listing.specs.Progress.{Begun, Clear, Emptied, Paved}
 use Rattle.listing.proofs.Runs.{run_ends, run_goes}
 use Rattle.listing.proofs.Turns.{next_shows, begun_next}
 
-module _ {C P : Type 0} (d : Maps P) (l : Laws d) (m : C → Meaning P) (sound : (c : C) → Sound d (m c)) (display : P → Option (List ℕ)) (s u : Sheet C P) (most : ℕ) (r : Ran) (b : Turned d m (Run most) s (RanFor r) u) where
+module _ {C P : Type 0} {g : Contractor.Ghosts C P} {k : Domain.Ghosts P} (d : Maps P) (l : Laws d) (m : C → Meaning P) (sound : (c : C) → Sound d (m c)) (display : P → Option (List ℕ)) (s u : Sheet C P g k) (most : ℕ) (r : Ran) (b : Turned d m (Run most) s (RanFor r) u) where
   ran_value : (us : List Turn) → StandsAfter d m us s → (run (task_of d m s) most (after_turns (task_of d m s) us)).value ≡ r
   ran_value us st = let e = (b.played us st).value in cc
 
@@ -48,13 +50,13 @@ module _ {C P : Type 0} (d : Maps P) (l : Laws d) (m : C → Meaning P) (sound :
       let goes = run_goes t limits.few_records most x h (sym st.roll ∙ w.roll) (λ e. f (sym (ap (λ q. q.refusal) (ran_value us st)) ∙ e)) in
       (omega (arith, goes, st.steps, shows.steps), omega (arith, limits.few_steps, shows.steps, ap (λ y. y.steps) (left_by_push t us (Run most) (opening t))))
 
-  module _ (v : Sheet C P) (before text : List ℕ) (e : Emptied d m display u v text) where
-    pub round_same : (first : Sheet C P) → SameTask d m first s → SameTask d m first v
+  module _ (v : Sheet C P g k) (before text : List ℕ) (e : Emptied d m display u v text) where
+    pub round_same : (first : Sheet C P g k) → SameTask d m first s → SameTask d m first v
     round_same first q = same_on d m first u v (same_on d m first s u q b.same) e.same
 
     -- the steps that are left grow fewer with each round
     pub round_less : 0 < most → Clear d m display s before → (r.refusal ≡ Some NothingWaiting → ⊥) → 2 * d.count v.start - v.store.steps < 2 * d.count s.start - s.store.steps
     round_less h w f = let g = grown before h w f in omega (arith, g.0, g.1, e.steps, ap d.count (e.same.start ∙ b.same.start))
 
-    pub round_last : (first : Sheet C P) → SameTask d m first s → Begun d m display s before → r.refusal ≡ Some NothingWaiting → Paved d m display first v text
+    pub round_last : (first : Sheet C P g k) → SameTask d m first s → Begun d m display s before → r.refusal ≡ Some NothingWaiting → Paved d m display first v text
     round_last first q w f = record { same = round_same first q; clear = e.clear; done = e.pile ∙ nothing_left before w f }

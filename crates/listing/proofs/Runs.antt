@@ -12,11 +12,11 @@ use Rattle.paving.proofs.Causing.{run_runs}
 
 module _ {P : Type 0} (t : Task P) where
   step_counts : (s : State P) (ws : List P) (r : Outcome ℕ P) → step_on t s ws ≡ Ok r → r.after.steps ≡ suc s.steps
-  step_counts s [] r e = let z : ◌≡◌ {A = ℕ} 0 1 = cc in absurd (omega arith)
+  step_counts s [] r e = cc
   step_counts s (x ∷ xs) r e = go (ltb (free s) (length (step_entries t x))) e
     where
       go : (b : Bool) → ◌≡◌ {A = Result (Outcome ℕ P) Refusal} (elim b [ true ↦ Err RollFull | false ↦ Ok (outcome (length (step_entries t x)) (stepped t s x xs)) ]) (Ok r) → r.after.steps ≡ suc s.steps
-      go true f = let z : ◌≡◌ {A = ℕ} 0 1 = cc in absurd (omega arith)
+      go true f = cc
       go false f = let same : outcome (length (step_entries t x)) (stepped t s x xs) ≡ r = cc in ap (λ o. o.after.steps) (sym same)
 
   -- a step is refused with nothing waiting where nothing waits
@@ -25,8 +25,8 @@ module _ {P : Type 0} (t : Task P) where
   nothing_waits s (x ∷ xs) e = go (ltb (free s) (length (step_entries t x))) e
     where
       go : (b : Bool) → ◌≡◌ {A = Result (Outcome ℕ P) Refusal} (elim b [ true ↦ Err RollFull | false ↦ Ok (outcome (length (step_entries t x)) (stepped t s x xs)) ]) (Err NothingWaiting) → (x ∷ xs) ≡ []
-      go true f = let z : ◌≡◌ {A = ℕ} 0 1 = cc in absurd (omega arith)
-      go false f = let z : ◌≡◌ {A = ℕ} 0 1 = cc in absurd (omega arith)
+      go true f = cc
+      go false f = cc
 
   -- and over an empty roll with nothing else
   refused_waits : ((p : P) → length (step_entries t p) ≤ 9) → (s : State P) (ws : List P) (i : Refusal) → roll s ≡ [] → step_on t s ws ≡ Err i → i ≡ NothingWaiting
@@ -35,7 +35,7 @@ module _ {P : Type 0} (t : Task P) where
     where
       go : (b : Bool) → ltb (free s) (length (step_entries t x)) ≡ b → ◌≡◌ {A = Result (Outcome ℕ P) Refusal} (elim b [ true ↦ Err RollFull | false ↦ Ok (outcome (length (step_entries t x)) (stepped t s x xs)) ]) (Err i) → i ≡ NothingWaiting
       go true h f = absurd (omega (arith, few x, ap length n, ltb-true (free s) (length (step_entries t x)) h))
-      go false h f = let z : ◌≡◌ {A = ℕ} 0 1 = cc in absurd (omega arith)
+      go false h f = cc
 
   accepts_counts : {n : ℕ} {s u : State P} → Accepts t n s u → u.steps ≡ s.steps + n
   accepts_counts none = omega arith

@@ -1,18 +1,12 @@
 -- The lines of a listing.
 use Rattle.std.specs.Prelude.{◌≡◌, ℕ, List, [], ◌∷◌, ◌++◌, Some, codes, decimal, Option}
-use Rattle.paving.specs.declared.classes.Class.{Class}
-use Rattle.paving.specs.declared.classes.Class.TheVariants.{Inside, Outside, Undecided}
+use Rattle.paving.specs.Names.{class_name}
 use Rattle.paving.specs.declared.records.Record.{Record}
 use Rattle.paving.specs.declared.tallies.Points.{Points}
 
 -- the second gives the text that every value is shown as
 abbrev pub Shown : {P : Type 0} → (P → Option (List ℕ)) → (P → List ℕ) → Type 0
 Shown {P} display shown = (p : P) → display p ≡ Some (shown p)
-
-abbrev pub class_name : Class → List ℕ
-class_name Inside = codes "in"
-class_name Outside = codes "out"
-class_name Undecided = codes "und"
 
 -- the byte at the end of every line
 abbrev pub line_end : List ℕ

@@ -1,7 +1,7 @@
 // The text of a sheet, from its opening to its end.
 ghost use Rattle.std.specs.Prelude.{ℕ, List, IfOk, string_bytes};
 ghost use Rattle.paving.specs.Sheet.{task};
-ghost use Rattle.sheet.specs.Standing.{means};
+ghost use Rattle.contractor.specs.Means.{means};
 ghost use Rattle.listing.specs.Lines.{Shown};
 ghost use Rattle.listing.specs.Listings.{Listing};
 ghost use Rattle.listing.specs.Progress.{Finished};
@@ -19,15 +19,15 @@ use std::fmt;
 // sheet comes back as it then stands: the size of a sheet over any contractor is known only where the signature has one.
 // An error says that no memory was left for the text.
 pub fn list<P: Domain + fmt::Display, C: Contractor<Piece = P> + Drop>(
-    heap: Global,
+    alloc: Global,
     contractor: C,
     start: P,
     grain: Grain,
 ) -> Result<(String, Sheet<C>), AllocError>
-    ensures value { (shown : P → List ℕ) → Shown P.Display.output shown → IfOk result (λ p. Listing (task P.Domain.maps (means C.Contractor.set C.Contractor.kept C.Contractor.dropped contractor) start grain.size) (C.Contractor.set contractor) shown (string_bytes p.0)) }
-    ensures after { IfOk result (λ p. Finished P.Domain.maps (means C.Contractor.set C.Contractor.kept C.Contractor.dropped) contractor start grain p.1) }
+    ensures value { (shown : P → List ℕ) → Shown P.Display.output shown → IfOk result (λ p. Listing (task P.Domain.maps (means C.Contractor contractor) start grain.size) (C.Contractor.set contractor) shown (string_bytes p.0)) }
+    ensures after { IfOk result (λ p. Finished P.Domain.maps (means C.Contractor) contractor start grain p.1) }
 {
-    let mut text = String::new(heap);
+    let mut text = String::new(alloc);
     let mut sheet = Sheet::open(contractor, start, grain);
     pave(&mut sheet, &mut text)?;
     let tally = sheet.tally();

@@ -1,32 +1,20 @@
 -- Numbers between commas.
-use Rattle.std.proofs.Common.{◌≡◌, ℕ, zero, suc, ◌^◌, ◌<◌, List, [], ◌∷◌, ◌++◌, ℤ, pos, negsuc, decimal, sym, refl, ap, ◌∙◌, subst, arith, w32, SFits}
-use lib.Signed.{mag}
+use Rattle.std.proofs.Common.{◌≡◌, ℕ, zero, suc, ◌+◌, ◌-◌, ◌^◌, ◌<◌, List, [], ◌∷◌, ◌++◌, length, take, set, length-set, append_assoc, ℤ, pos, negsuc, decimal, sym, refl, ap, ◌∙◌, subst, arith, w32, SFits}
 use Rattle.std.specs.Fmt.{signed_decimal}
 use Rattle.std.proofs.lemmas.Fmt.{signed_decimal_injective}
-use Rattle.std.proofs.ByRecursion.{All-from_get_or}
+use Rattle.std.proofs.lemmas.List.{take_all, take_more_set}
+use Rattle.std.proofs.lemmas.List.Elements.{All-from_get_or, All-nil, All-cons, All-head, All-tail}
 use Rattle.numerals.specs.Lists.{Without, Cut, listed, Lists}
 use Rattle.numerals.proofs.Cuts.{one_cut}
-use Rattle.numerals.proofs.Digits.{looks, digit_in}
-
-small_pos : (n : ℕ) → SFits w32 (pos n) → n < 2 ^ 31
-small_pos n f = f.sfits
-
-small_neg : (n : ℕ) → SFits w32 (negsuc n) → n < 2 ^ 31
-small_neg n f = f.sfits
-
-pub small_mag : (z : ℤ) → SFits w32 z → mag z < 2 ^ 63
-small_mag (pos n) f = omega (arith, small_pos n f)
-small_mag (negsuc n) f = omega (arith, small_neg n f)
+use Rattle.numerals.proofs.Signs.{digit_in, small_mag}
 
 decimal_without : (n b : ℕ) → n < 10 ^ 10 → b < 48 → Without b (decimal n)
-decimal_without n b h l =
-    let k = looks (decimal n) n h refl in
-    All-from_get_or (λ x. x ≡ b → ⊥) (decimal n) 0 (λ i g e. omega (arith, digit_in (decimal n) i k.digits g, e))
+decimal_without n b h l = All-from_get_or (λ x. x ≡ b → ⊥) (decimal n) 0 (λ i g e. omega (arith, digit_in n i (omega arith) g, e))
 
 -- a number has no byte below its minus, and none between that and its digits
 pub signed_without : (z : ℤ) (b : ℕ) → SFits w32 z → b < 45 → Without b (signed_decimal z)
-signed_without (pos n) b f l = decimal_without n b (omega (arith, small_pos n f)) (omega arith)
-signed_without (negsuc n) b f l = (λ e. omega arith, decimal_without (suc n) b (omega (arith, small_neg n f)) (omega arith))
+signed_without (pos n) b f l = decimal_without n b (omega (arith, f.sfits)) (omega arith)
+signed_without (negsuc n) b f l = All-cons (λ x. x ≡ b → ⊥) 45 (decimal (suc n)) (λ e. omega arith) (decimal_without (suc n) b (omega (arith, f.sfits)) (omega arith))
 
 -- the first of some numbers, and the rest of the text
 pub first_of : (z : ℤ) (front back rest text : List ℕ) → SFits w32 z → Cut 44 text front back → text ≡ signed_decimal z ++ 44 ∷ rest → (front ≡ signed_decimal z) × (back ≡ rest)
@@ -45,10 +33,10 @@ headed z text front back c e = c.parts ∙ ap (λ fs. fs ++ 44 ∷ back) e
 -- a list of two numbers and more is the first of them, and a list of the others
 pub lists_more : (n : ℕ) (text rest : List ℕ) (z : ℤ) (zs : List ℤ) → SFits w32 z → Headed text z rest → Lists (suc n) rest zs → Lists (suc (suc n)) text (z ∷ zs)
 lists_more n text rest z [] f h l = absurd (omega (arith, l.count))
-lists_more n text rest z (y ∷ ys) f h l = record { count = ap suc l.count; fit = (f, l.fit); written = h ∙ ap (λ ts. signed_decimal z ++ 44 ∷ ts) l.written }
+lists_more n text rest z (y ∷ ys) f h l = record { count = ap suc l.count; fit = All-cons (SFits w32) z (y ∷ ys) f l.fit; written = h ∙ ap (λ ts. signed_decimal z ++ 44 ∷ ts) l.written }
 
 pub lists_one : (text : List ℕ) (z : ℤ) → SFits w32 z → text ≡ signed_decimal z → Lists 1 text (z ∷ [])
-lists_one text z f e = record { count = refl; fit = (f, tt); written = e }
+lists_one text z f e = record { count = refl; fit = All-cons (SFits w32) z [] f (All-nil (SFits w32)); written = e }
 
 -- what is left of a list of numbers after the first, whichever that is
 pub record Parted (n : ℕ) (text : List ℕ) (zs : List ℤ) : Type 0 where
@@ -68,16 +56,16 @@ parted n text (z ∷ y ∷ ys) l =
       first = z;
       others = y ∷ ys;
       rest = listed (y ∷ ys);
-      fits = l.fit.0;
+      fits = All-head (SFits w32) z (y ∷ ys) l.fit;
       headed = l.written;
-      lists = record { count = omega (arith, l.count); fit = l.fit.1; written = refl };
+      lists = record { count = omega (arith, l.count); fit = All-tail (SFits w32) z (y ∷ ys) l.fit; written = refl };
       all = refl;
     }
 
 -- the number of a list of one
 pub alone : (text : List ℕ) (zs : List ℤ) → Lists 1 text zs → (z : ℤ) × SFits w32 z × (text ≡ signed_decimal z) × (zs ≡ z ∷ [])
 alone text [] l = absurd (omega (arith, l.count))
-alone text (z ∷ []) l = (z, l.fit.0, l.written, refl)
+alone text (z ∷ []) l = (z, All-head (SFits w32) z [] l.fit, l.written, refl)
 alone text (z ∷ y ∷ ys) l = absurd (omega (arith, l.count))
 
 -- two ways to head a text are the same
@@ -99,12 +87,63 @@ one_list (suc n) text ys zs l m =
     let o = one_list n b.rest a.others b.others (subst (λ ts. Lists (suc n) ts a.others) h.1 a.lists) b.lists in
     a.all ∙ ap (λ z. z ∷ a.others) h.0 ∙ ap (λ rs. b.first ∷ rs) o ∙ sym b.all
 
--- no list where there is no first number, or no list of the others
+-- no list where there is no first number
 pub no_head : (n : ℕ) (text : List ℕ) → ((z : ℤ) (rest : List ℕ) → SFits w32 z → Headed text z rest → ⊥) → (zs : List ℤ) → Lists (suc (suc n)) text zs → ⊥
 no_head n text none zs l = let a = parted n text zs l in none a.first a.rest a.fits a.headed
 
-pub no_others : (n : ℕ) (text rest : List ℕ) (z : ℤ) → SFits w32 z → Headed text z rest → ((ys : List ℤ) → Lists (suc n) rest ys → ⊥) → (zs : List ℤ) → Lists (suc (suc n)) text zs → ⊥
-no_others n text rest z f h none zs l =
-    let a = parted n text zs l in
-    let r = one_head text z a.first rest a.rest f a.fits h a.headed in
-    none a.others (subst (λ ts. Lists (suc n) ts a.others) (sym r.1) a.lists)
+-- n numbers are to be read, the first i of them are, and these stand before the rest of the text
+pub record Midway (n i : ℕ) (text : List ℕ) (numbers : List ℤ) (rest : List ℕ) : Type 0 where
+  pub places : length numbers ≡ n
+  -- numbers that the rest lists are the further ones of the text, and what the text lists goes on in the rest
+  pub goes : (zs : List ℤ) → Lists (n - i) rest zs → Lists n text (take i numbers ++ zs)
+  pub back : (zs : List ℤ) → Lists n text zs → (ys : List ℤ) × Lists (n - i) rest ys
+
+module _ (n i : ℕ) (text : List ℕ) (numbers : List ℤ) (rest : List ℕ) (m : Midway n i text numbers rest) where
+  -- one number more, that is not the last
+  pub midway_more : (z : ℤ) (after : List ℕ) → i + 1 < n → SFits w32 z → Headed rest z after → Midway n (i + 1) text (set numbers i z) after
+  midway_more z after h f e =
+      let k : n - i ≡ suc (suc (n - (i + 2))) = omega arith in
+      let j : n - (i + 1) ≡ suc (n - (i + 2)) = omega arith in
+      record {
+        places = simp length-set m.places;
+        goes = λ zs l.
+            let r = lists_more (n - (i + 2)) rest after z zs f e (subst (λ (c : ℕ). Lists c after zs) j l) in
+            subst (Lists n text) (sym (ap (λ xs. xs ++ zs) (take_more_set numbers i z (omega (arith, m.places))) ∙ append_assoc (take i numbers) (z ∷ []) zs))
+            (m.goes (z ∷ zs) (subst (λ (c : ℕ). Lists c rest (z ∷ zs)) (sym k) r));
+        back = λ zs l.
+            let b = m.back zs l in
+            let p = parted (n - (i + 2)) rest b.0 (subst (λ (c : ℕ). Lists c rest b.0) k b.1) in
+            let s = one_head rest z p.first after p.rest f p.fits e p.headed in
+            (p.others, subst (λ (c : ℕ). Lists c after p.others) (sym j) (subst (λ ts. Lists (suc (n - (i + 2))) ts p.others) (sym s.1) p.lists));
+      }
+
+  pub midway_none : i + 1 < n → ((z : ℤ) (after : List ℕ) → SFits w32 z → Headed rest z after → ⊥) → (zs : List ℤ) → Lists n text zs → ⊥
+  midway_none h none zs l =
+      let b = m.back zs l in
+      let k : n - i ≡ suc (suc (n - (i + 2))) = omega arith in
+      no_head (n - (i + 2)) rest none b.0 (subst (λ (c : ℕ). Lists c rest b.0) k b.1)
+
+  -- the last number
+  pub midway_last : (z : ℤ) → i + 1 ≡ n → SFits w32 z → rest ≡ signed_decimal z → Lists n text (set numbers (n - 1) z)
+  midway_last z h f e =
+      let j : i ≡ n - 1 = omega arith in
+      let k : n - i ≡ 1 = omega arith in
+      let t = take_all (i + 1) (set numbers i z) (simp length-set (omega (arith, m.places))) in
+      subst (Lists n text) (sym (take_more_set numbers i z (omega (arith, m.places))) ∙ t ∙ ap (λ (k : ℕ). set numbers k z) j)
+      (m.goes (z ∷ []) (subst (λ (c : ℕ). Lists c rest (z ∷ [])) (sym k) (lists_one rest z f e)))
+
+  pub midway_ill : i + 1 ≡ n → ((z : ℤ) → SFits w32 z → rest ≡ signed_decimal z → ⊥) → (zs : List ℤ) → Lists n text zs → ⊥
+  midway_ill h none zs l =
+      let b = m.back zs l in
+      let k : n - i ≡ 1 = omega arith in
+      let a = alone rest b.0 (subst (λ (c : ℕ). Lists c rest b.0) k b.1) in
+      none a.0 a.1 a.2
+
+pub midway_begun : (n : ℕ) (text : List ℕ) (numbers : List ℤ) → length numbers ≡ n → Midway n 0 text numbers text
+midway_begun n text numbers e =
+    let k : n - 0 ≡ n = omega arith in
+    record {
+      places = e;
+      goes = λ zs l. subst (λ (c : ℕ). Lists c text zs) k l;
+      back = λ zs l. (zs, subst (λ (c : ℕ). Lists c text zs) (sym k) l);
+    }

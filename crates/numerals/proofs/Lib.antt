@@ -1,4 +1,3 @@
 pub mod Commas
 pub mod Cuts
-pub mod Digits
 pub mod Signs

@@ -6,10 +6,6 @@ ghost use Rattle.numerals.specs.Lists.{Cut, Without};
 pub fn cut(bytes: &[u8], at: u8) -> Option<(&[u8], &[u8])>
     ensures { MatchOption result (Without at bytes.now) (λ p. Cut at bytes.now p.0.now p.1.now) }
 {
-    for i in 0..bytes.len() {
-        if bytes[i] == at {
-            return Some((&bytes[..i], &bytes[i + 1..]));
-        }
-    }
-    None
+    let i = bytes.iter().position(|byte| *byte == at)?;
+    Some((&bytes[..i], &bytes[i + 1..]))
 }

@@ -2,8 +2,6 @@
 #![tactic(auto)]
 
 pub mod draft;
-pub mod entered;
-pub mod entries;
 pub mod joined;
 pub mod pair;
 pub mod panel;

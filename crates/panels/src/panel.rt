@@ -26,6 +26,7 @@ pub trait Panel {
     fn shed(&self, member: usize, piece: &Self::Piece) -> Result<Option<Self::Piece>, Refusal>
         ensures { Given result 9 (member < length (members self.now)) (λ o. Shed (members self.now) member piece.now o) };
 
+    // By recursion, and not std's `All` by index: the theorems on layers are stated of it.
     ghost sound: { (p : Self) → AllByRecursion (Sound Self.Piece.Domain.maps) (members p) };
 
     ghost few: { (p : Self) → length (members p) ≤ 16 };

@@ -28,7 +28,7 @@ module _ {P : Type 0} (t : Task P) (s : State P) where
 
   take_cause : (rs : List (Record P)) → roll s ≡ rs → Given (take_from s rs) 13 (roll s ≡ [] → ⊥) (λ r. (qs : List (Record P)) × (roll s ≡ r.value ∷ qs))
   take_cause [] e = ((λ h. h e), refl)
-  take_cause (r ∷ rs) e = ((λ f. let z : ◌≡◌ {A = ℕ} 0 1 = cc in omega arith), (rs, e))
+  take_cause (r ∷ rs) e = ((λ f. cc), (rs, e))
 
   -- a refused turn leaves the sheet as it was
   answered_refused : {A : Type 0} (f : A → Answer P) (r : Result (Outcome A P) Refusal) (e : Refusal) → ((a : A) → f a ≡ Refused e → ⊥) → (answered f r s).value ≡ Refused e → (answered f r s).after ≡ s
@@ -36,9 +36,9 @@ module _ {P : Type 0} (t : Task P) (s : State P) where
   answered_refused f (Err i) e h q = refl
 
   unchanged : (u : Turn) (e : Refusal) → (turn t u s).value ≡ Refused e → (turn t u s).after ≡ s
-  unchanged Step e q = answered_refused Stepped (step t s) e (λ a h. let z : ◌≡◌ {A = ℕ} 0 1 = cc in omega arith) q
-  unchanged (Run m) e q = let z : ◌≡◌ {A = ℕ} 0 1 = cc in absurd (omega arith)
-  unchanged Take e q = answered_refused Took (take_oldest s) e (λ a h. let z : ◌≡◌ {A = ℕ} 0 1 = cc in omega arith) q
+  unchanged Step e q = answered_refused Stepped (step t s) e (λ a h. cc) q
+  unchanged (Run m) e q = cc
+  unchanged Take e q = answered_refused Took (take_oldest s) e (λ a h. cc) q
   unchanged (Find n) e q = refl
   unchanged Tally e q = refl
 

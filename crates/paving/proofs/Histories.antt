@@ -29,13 +29,14 @@ record Steps {P : Type 0} (s : State P) (n : ℕ) (after : State P) : Type 0 whe
   given : gone after ≡ gone s
   told : after.steps ≡ s.steps + n
 
-takes_cons : {P : Type 0} (a : Answer P) (rest : List (Answer P)) → takes (a ∷ rest) ≡ takes (a ∷ []) ++ takes rest
-takes_cons (Stepped n) rest = refl
-takes_cons (RanFor r) rest = refl
-takes_cons (Took r) rest = refl
-takes_cons (Found p) rest = refl
-takes_cons (Tallied y) rest = refl
-takes_cons (Refused e) rest = refl
+pub takes_append : {P : Type 0} (as' bs : List (Answer P)) → takes (as' ++ bs) ≡ takes as' ++ takes bs
+takes_append [] bs = refl
+takes_append (Stepped n ∷ as') bs = takes_append as' bs
+takes_append (RanFor r ∷ as') bs = takes_append as' bs
+takes_append (Took r ∷ as') bs = ap (λ rs. r ∷ rs) (takes_append as' bs)
+takes_append (Found p ∷ as') bs = takes_append as' bs
+takes_append (Tallied y ∷ as') bs = takes_append as' bs
+takes_append (Refused e ∷ as') bs = takes_append as' bs
 
 accepted_cons : {P : Type 0} (a : Answer P) (rest : List (Answer P)) → accepted (a ∷ rest) ≡ accepted (a ∷ []) + accepted rest
 accepted_cons (Stepped n) rest = omega arith
@@ -47,9 +48,9 @@ accepted_cons (Refused e) rest = omega arith
 
 -- the oldest on the roll is the next taken
 take_next : {X : Type 0} (n : ℕ) (xs : List X) (y : X) (ys : List X) → drop n xs ≡ y ∷ ys → take (suc n) xs ≡ take n xs ++ y ∷ []
-take_next zero [] y ys e = let z : ◌≡◌ {A = ℕ} 0 1 = cc in absurd (omega arith)
-take_next zero (x ∷ xs) y ys e = let same : x ≡ y = cc in ap (λ z. z ∷ []) same
-take_next (suc n) [] y ys e = let z : ◌≡◌ {A = ℕ} 0 1 = cc in absurd (omega arith)
+take_next zero [] y ys e = cc
+take_next zero (x ∷ xs) y ys e = cc
+take_next (suc n) [] y ys e = cc
 take_next (suc n) (x ∷ xs) y ys e = ap (λ zs. x ∷ zs) (take_next n xs y ys e)
 
 module _ {P : Type 0} (t : Task P) (l : Laws t.maps) (set : ℕ → Bool) (sound : Sound t.maps (meaning set t.keep t.shed)) where
@@ -111,7 +112,7 @@ module _ {P : Type 0} (t : Task P) (l : Laws t.maps) (set : ℕ → Bool) (sound
       given_by us (turn t u s).after (turn_keeps t (Kept t set) (keeps t l set sound) u s k)
       ∙ ap (λ rs. rs ++ takes (answers_from t us (turn t u s).after)) (turn_adds u s k).given
       ∙ append_assoc (gone s) (takes ((turn t u s).value ∷ [])) (takes (answers_from t us (turn t u s).after))
-      ∙ ap (λ rs. gone s ++ rs) (sym (takes_cons (turn t u s).value (answers_from t us (turn t u s).after)))
+      ∙ ap (λ rs. gone s ++ rs) (sym (takes_append ((turn t u s).value ∷ []) (answers_from t us (turn t u s).after)))
 
   told_by : (us : List Turn) (s : State P) → Kept t set s → (left_by t us s).steps ≡ s.steps + accepted (answers_from t us s)
   told_by [] s k = omega arith

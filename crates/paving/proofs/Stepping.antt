@@ -188,10 +188,10 @@ module _ {P : Type 0} (t : Task P) (l : Laws t.maps) (set : ℕ → Bool) (s : S
         | inl y ↦
             let none = s.shed_one x n.0 c n.1 y in
             let same = ap t.shed (alone t.maps l p x w c) in
-            let z : ◌≡◌ {A = ℕ} 0 1 = cc in omega arith
+            cc
         | inr y ↦
             let none = s.keep_one x n.0 c n.1 y in
-            let z : ◌≡◌ {A = ℕ} 0 1 = cc in omega arith
+            cc
       ]
 
   back_less : (x p : P) (o : Option P) → t.keep x ≡ Some p → t.shed p ≡ o → t.maps.within p x ≡ true → Fits t.maps p o → 2 * total t.maps (put_back t o) + 2 ≤ 2 * t.maps.count x + length (put_back t o)

@@ -20,7 +20,7 @@ use Rattle.paving.specs.declared.places.Place.{Place}
 use Rattle.paving.specs.declared.places.Place.TheVariants.{Waiting, Taken}
 use Rattle.paving.specs.declared.records.Record.{Record}
 use Rattle.paving.proofs.Keeping.{Kept, pieces_times}
-use Rattle.paving.proofs.Sums.{by_class}
+use Rattle.paving.proofs.Sums.{put_is, by_class}
 
 -- one piece more of a class, or of another
 put_same : {P : Type 0} (c : Class) (p : P) (ps : List P) → put c c p ps ≡ p ∷ ps
@@ -30,15 +30,8 @@ put_same undecided p ps = refl
 
 module _ {P : Type 0} (d : Maps P) (n : ℕ) where
   put_more : (c e : Class) (p : P) (ps : List P) → times d n ps ≤ times d n (put c e p ps)
-  put_more inside inside p ps = omega (arith, times_cons d n p ps)
-  put_more inside outside p ps = omega arith
-  put_more inside undecided p ps = omega arith
-  put_more outside inside p ps = omega arith
-  put_more outside outside p ps = omega (arith, times_cons d n p ps)
-  put_more outside undecided p ps = omega arith
-  put_more undecided inside p ps = omega arith
-  put_more undecided outside p ps = omega arith
-  put_more undecided undecided p ps = omega (arith, times_cons d n p ps)
+  put_more c e p ps =
+      elim (put_is c e p ps) [ inl h ↦ omega (arith, ap (times d n) h.1, times_cons d n p ps) | inr h ↦ omega (arith, ap (times d n) h) ]
 
 module _ {P : Type 0} (t : Task P) (n : ℕ) where
   -- what a search through the pile finds

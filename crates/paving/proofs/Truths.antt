@@ -1,7 +1,8 @@
 -- The truth law, and the limits.
-use Rattle.std.proofs.Common.{◌≡◌, ℕ, ◌≤◌, Bool, true, false, cond, ◌&&◌, List, [], ◌∷◌, length, sym, refl, ap, ◌∙◌, inl, inr, arith}
+use Rattle.std.proofs.Common.{◌≡◌, ℕ, ◌≤◌, Bool, true, false, cond, ◌&&◌, List, [], ◌∷◌, length, sym, refl, ap, ◌∙◌, subst, inl, inr, arith}
 use Rattle.std.specs.List.{AllByRecursion}
-use Rattle.std.proofs.lemmas.Bool.{cases_Bool, cases_eq, false≢true, true≢false}
+use Rattle.std.proofs.Math.Bool.{and-true}
+use Rattle.std.proofs.lemmas.Bool.{and_right, cases_Bool, cases_eq, false≢true, true≢false}
 use Rattle.scan.specs.Count.{bit}
 use Rattle.domain.specs.Laws.{Laws}
 use Rattle.domain.specs.Maps.{Maps, times}
@@ -14,15 +15,7 @@ use Rattle.paving.specs.declared.classes.Class.TheVariants.{Inside, Outside, Und
 use Rattle.paving.specs.declared.records.Record.{Record}
 use Rattle.paving.proofs.Keeping.{Kept, numbered_at}
 use Rattle.paving.proofs.Stepping.{Says, Steep, step_makes}
-use Rattle.paving.proofs.Sums.{by_class}
-
-and_true : (a b : Bool) → b ≡ true → bit (a && b) ≡ bit a
-and_true true b e = ap bit e
-and_true false b e = refl
-
-and_false : (a b : Bool) → b ≡ false → bit (a && b) ≡ 0
-and_false true b e = ap bit e
-and_false false b e = refl
+use Rattle.paving.proofs.Sums.{put_is, by_class}
 
 -- at grain 1 no piece is small
 none_small : {P : Type 0} (t : Task P) → Laws t.maps → (ps : List P) → AllByRecursion (Small t) ps → t.grain ≡ 1 → ps ≡ []
@@ -35,15 +28,11 @@ steep_length d (p ∷ ps) h = omega (arith, h.0)
 
 module _ {P : Type 0} (t : Task P) (set : ℕ → Bool) where
   put_says : (c e : Class) (p : P) (ps : List P) → Says t set e p → AllByRecursion (Says t set c) ps → AllByRecursion (Says t set c) (put c e p ps)
-  put_says Inside Inside p ps h a = (h, a)
-  put_says Inside Outside p ps h a = a
-  put_says Inside Undecided p ps h a = a
-  put_says Outside Inside p ps h a = a
-  put_says Outside Outside p ps h a = (h, a)
-  put_says Outside Undecided p ps h a = a
-  put_says Undecided Inside p ps h a = a
-  put_says Undecided Outside p ps h a = a
-  put_says Undecided Undecided p ps h a = (h, a)
+  put_says c e p ps h a =
+      elim (put_is c e p ps) [
+        | inl q ↦ subst (AllByRecursion (Says t set c)) (sym q.1) (subst (λ k. Says t set k p) (sym q.0) h, a)
+        | inr q ↦ subst (AllByRecursion (Says t set c)) (sym q) a
+      ]
 
   -- what records say, class by class
   pub class_says : (c : Class) (rs : List (Record P)) → AllByRecursion (λ r. Says t set r.class r.piece) rs → AllByRecursion (Says t set c) (of_class c rs)
@@ -60,8 +49,8 @@ module _ {P : Type 0} (t : Task P) (l : Laws t.maps) (set : ℕ → Bool) (sound
       let none = ap (times t.maps n) (decided g) in
       let all = ap (times t.maps n) w in
       elim (cases_Bool (set n)) [
-        | inl e ↦ omega (arith, classes, none, all, k.shares n, and_true (t.maps.holds t.start n) (set n) e, outs e)
-        | inr e ↦ omega (arith, and_false (t.maps.holds t.start n) (set n) e, ins e)
+        | inl e ↦ omega (arith, classes, none, all, k.shares n, ap (λ b. bit (t.maps.holds t.start n && b)) e, ap bit (and-true (t.maps.holds t.start n)), outs e)
+        | inr e ↦ omega (arith, ap bit (and_right (t.maps.holds t.start n) (set n) e), ins e)
       ]
     where
       outs : set n ≡ true → times t.maps n (of_class Outside s.made) ≡ 0

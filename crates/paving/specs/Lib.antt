@@ -1,4 +1,5 @@
 pub mod Laws
+pub mod Names
 pub mod Numbers
 pub mod Sheet
 pub mod Steps

@@ -8,7 +8,7 @@ use crate::tallies::Tally;
 use domain::refusal::Refusal;
 
 // How many steps of a run were accepted, and what refused the next one, if something did.
-#[derive(Clone, Copy)]
+#[derive(Clone, Copy, Debug, PartialEq, Eq)]
 pub struct Ran {
     pub accepted: u32,
     pub refusal: Option<Refusal>,
@@ -19,14 +19,12 @@ impl Ran {
     pub fn code(&self) -> u8
         ensures { result ≡ stop_code self.now.refusal }
     {
-        match &self.refusal {
-            Some(refusal) => refusal.code(),
-            None => 0,
-        }
+        self.refusal.map_or(0, |refusal| refusal.code())
     }
 }
 
-#[derive(Clone, Copy)]
+// A refusal is one of the answers, so that a list of turns has one list of answers.
+#[derive(Clone, Copy, Debug, PartialEq, Eq)]
 pub enum Answer<P> {
     // How many records were made.
     Stepped(u32),

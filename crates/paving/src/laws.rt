@@ -1,6 +1,6 @@
 // The laws of a sheet, over any contractor.
 ghost use Rattle.std.specs.Prelude.{◌≡◌, ◌+◌, ◌*◌};
-ghost use Rattle.contractor.specs.Meaning.{meaning};
+ghost use Rattle.contractor.specs.Means.{means};
 ghost use Rattle.paving.specs.Laws.{PavingLaws};
 
 use contractor::contractor::Contractor;
@@ -13,7 +13,7 @@ use domain::domain::Domain;
 // stays within its limits. A sheet over a rearranged contractor answers the same turns alike.
 pub fn most_steps<C: Contractor>(contractor: &C, start: &C::Piece) -> u64
     ensures value { result + 1 ≡ 2 * C.Piece.Domain.maps.count start.now }
-    ensures laws { PavingLaws C.Piece.Domain.maps (meaning (C.Contractor.set contractor.now) (C.Contractor.kept contractor.now) (C.Contractor.dropped contractor.now)) start.now }
+    ensures laws { PavingLaws C.Piece.Domain.maps (means C.Contractor contractor.now) start.now }
 {
     2 * start.count() - 1
 }

@@ -2,9 +2,11 @@
 #![tactic(auto)]
 
 pub mod answers;
+mod class_places;
 pub mod classes;
 pub mod laws;
 pub mod places;
 pub mod records;
+mod shown;
 pub mod tallies;
 pub mod turns;

@@ -2,26 +2,20 @@
 ghost use Rattle.std.specs.Prelude.{◌≡◌};
 ghost use Rattle.paving.specs.Numbers.{place_code};
 
-#[derive(Clone, Copy)]
+// Each has the number by which it is answered.
+#[derive(Clone, Copy, Debug, PartialEq, Eq)]
 pub enum Place {
-    Waiting,
-    Inside,
-    Outside,
-    Undecided,
-    Taken,
+    Waiting = 0,
+    Inside = 1,
+    Outside = 2,
+    Undecided = 3,
+    Taken = 4,
 }
 
 impl Place {
-    // The number by which a place is answered.
     pub fn code(&self) -> u8
         ensures { result ≡ place_code self.now }
     {
-        match self {
-            Place::Waiting => 0,
-            Place::Inside => 1,
-            Place::Outside => 2,
-            Place::Undecided => 3,
-            Place::Taken => 4,
-        }
+        *self as u8
     }
 }

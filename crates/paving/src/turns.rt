@@ -1,5 +1,5 @@
 // A turn of a planner at a sheet.
-#[derive(Clone, Copy)]
+#[derive(Clone, Copy, Debug, PartialEq, Eq)]
 pub enum Turn {
     Step,
     // At most so many steps.

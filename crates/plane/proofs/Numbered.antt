@@ -10,20 +10,20 @@ use Rattle.scan.proofs.Runs.{run_is, run_unique}
 use Rattle.domain.specs.Maps.{pieces, joined, Inside, Members, Gathered}
 use Rattle.plane.specs.declared.plane_box.PlaneBox.{PlaneBox}
 use Rattle.plane.specs.Boxes.{box_numbered, columns, rows, within, crossed, gather, plane}
-use Rattle.plane.specs.Gathering.{columns_numbered, rows_numbered, Short, Crossing, CrossingOf, Found}
+use Rattle.plane.specs.Gathering.{numbered_at, Crossing, CrossingOf, Found}
 use Rattle.plane.specs.Made.{box_is}
 use Rattle.plane.specs.Gathers.{between_all}
 use Rattle.plane.specs.Within.{within_is}
 
-columns_agree : (n : ℕ) (b : PlaneBox) → box_numbered n ≡ Some b → columns_numbered n ≡ columns b
+columns_agree : (n : ℕ) (b : PlaneBox) → box_numbered n ≡ Some b → numbered_at 12 n ≡ columns b
 columns_agree n b e =
     let h = box_is (n / 2 ^ 36) (n / 2 ^ 24 % 2 ^ 12) (n / 2 ^ 12 % 2 ^ 12) (n % 2 ^ 12) b e in
-    ap₂ (λ (l h : ℕ). record { low = l; high = h }) (sym h.0) (sym h.2)
+    ap₂ (λ (l h : ℕ). record { low = l; high = h }) (omega (arith, h, b.columns.ordered, b.columns.most)) (sym h.2)
 
-rows_agree : (n : ℕ) (b : PlaneBox) → box_numbered n ≡ Some b → rows_numbered n ≡ rows b
+rows_agree : (n : ℕ) (b : PlaneBox) → box_numbered n ≡ Some b → numbered_at 0 n ≡ rows b
 rows_agree n b e =
     let h = box_is (n / 2 ^ 36) (n / 2 ^ 24 % 2 ^ 12) (n / 2 ^ 12 % 2 ^ 12) (n % 2 ^ 12) b e in
-    ap₂ (λ (l h : ℕ). record { low = l; high = h }) (sym h.1) (sym h.3)
+    ap₂ (λ (l h : ℕ). record { low = l; high = h }) (sym h.1) (omega (arith, h))
 
 joined_is : (o : Option PlaneBox) (os : Option (List PlaneBox)) (ps : List PlaneBox) → joined o os ≡ Some ps → (p : PlaneBox) × (qs : List PlaneBox) × (o ≡ Some p) × (os ≡ Some qs) × (p ∷ qs ≡ ps)
 joined_is None os ps e = absurd (let z : ◌≡◌ {A = ℕ} 0 1 = cc in omega arith)
@@ -64,23 +64,18 @@ module _ (side : PlaneBox → Stretch) (extent : ℕ → Stretch) (agree : (n : 
         run_unique (deep k (map side ps)) lo (suc hi - lo) (suc hi) (omega arith) r
         (narrow (deep k (map side ps)) lo (suc hi) 4096 (omega arith) bounded r (found_whole ns r e h))
 
--- stretches of the plane
-runs_short : (f : ℕ → Bool) (o : Option Stretch) → Runs f 0 4096 o → Short o
-runs_short f None d = tt
-runs_short f (Some s) d = (d.1, omega (arith, d.2))
-
-module _ (x : PlaneBox) (ns : List ℕ) (k : ℕ) (deeper : 0 < k) (c r : Option Stretch) (across : Found columns_numbered ns k c) (up : Found rows_numbered ns k r) where
+module _ (x : PlaneBox) (ns : List ℕ) (k : ℕ) (deeper : 0 < k) (c r : Option Stretch) (across : Found (numbered_at 12) ns k c) (up : Found (numbered_at 0) ns k r) where
   -- what the boxes so numbered have to do with what was found
   abbrev Sought : List PlaneBox → Type 0
   Sought ps = Runs (deep k (map columns ps)) 0 4096 c × Runs (deep k (map rows ps)) 0 4096 r × (crossed c r ≡ gather x ps k)
 
   sought : (ps : List PlaneBox) → pieces plane ns ≡ Some ps → Inside plane x ps → Sought ps
   sought ps e a =
-      let p = All-weaker (λ p. within p x ≡ true) (λ p. (x.x0 ≤ p.x0) × (p.x1 ≤ x.x1)) (λ p w. let h = within_is p x w in (h.0, h.1)) ps a in
-      let q = All-weaker (λ p. within p x ≡ true) (λ p. (x.y0 ≤ p.y0) × (p.y1 ≤ x.y1)) (λ p w. let h = within_is p x w in (h.2, h.3)) ps a in (
-        found_whole columns columns_numbered columns_agree x.x0 x.x1 x.rightmost x.across k deeper ps p ns c e across,
-        found_whole rows rows_numbered rows_agree x.y0 x.y1 x.topmost x.up k deeper ps q ns r e up,
-        ap₂ crossed (found columns columns_numbered columns_agree x.x0 x.x1 x.rightmost x.across k deeper ps p ns c e across) (found rows rows_numbered rows_agree x.y0 x.y1 x.topmost x.up k deeper ps q ns r e up),
+      let p = All-weaker (λ p. within p x ≡ true) (λ p. (x.columns.low ≤ p.columns.low) × (p.columns.high ≤ x.columns.high)) (λ p w. let h = within_is p x w in (h.0, h.1)) ps a in
+      let q = All-weaker (λ p. within p x ≡ true) (λ p. (x.rows.low ≤ p.rows.low) × (p.rows.high ≤ x.rows.high)) (λ p w. let h = within_is p x w in (h.2, h.3)) ps a in (
+        found_whole columns (numbered_at 12) columns_agree x.columns.low x.columns.high x.columns.most x.columns.ordered k deeper ps p ns c e across,
+        found_whole rows (numbered_at 0) rows_agree x.rows.low x.rows.high x.rows.most x.rows.ordered k deeper ps q ns r e up,
+        ap₂ crossed (found columns (numbered_at 12) columns_agree x.columns.low x.columns.high x.columns.most x.columns.ordered k deeper ps p ns c e across) (found rows (numbered_at 0) rows_agree x.rows.low x.rows.high x.rows.most x.rows.ordered k deeper ps q ns r e up),
       )
 
   sought_of : (o : Option (List PlaneBox)) → pieces plane ns ≡ o → MatchOption o ⊥ (Inside plane x) → MatchOption o ⊥ Sought
@@ -91,14 +86,6 @@ module _ (x : PlaneBox) (ns : List ℕ) (k : ℕ) (deeper : 0 < k) (c r : Option
   follows : (Q : List PlaneBox → Type 0) → ((ps : List PlaneBox) → Sought ps → Q ps) → (o : Option (List PlaneBox)) → MatchOption o ⊥ Sought → MatchOption o ⊥ Q
   follows Q f None a = a
   follows Q f (Some ps) a = f ps a
-
-  always : (Q : Type 0) → ((ps : List PlaneBox) → Sought ps → Q) → (o : Option (List PlaneBox)) → MatchOption o ⊥ Sought → Q
-  always Q f None a = absurd a
-  always Q f (Some ps) a = f ps a
-
-  pub both_short : Members plane x ns → Short c × Short r
-  both_short m =
-      always (Short c × Short r) (λ ps s. (runs_short (deep k (map columns ps)) c s.0, runs_short (deep k (map rows ps)) r s.1)) (pieces plane ns) (sought_of (pieces plane ns) refl m)
 
   pub gathered_from : Members plane x ns → (g : Option PlaneBox) → g ≡ crossed c r → Gathered plane x ns k g
   gathered_from m g q = follows (λ ps. g ≡ gather x ps k) (λ ps s. q ∙ s.2) (pieces plane ns) (sought_of (pieces plane ns) refl m)

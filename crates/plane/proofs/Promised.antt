@@ -3,6 +3,7 @@ use Rattle.std.proofs.Common.{◌≡◌, ℕ, ◌+◌, ◌*◌, ◌/◌, ◌%◌
 use Rattle.scan.specs.Live.{first_live, last_live, run}
 use Rattle.domain.specs.Maps.{Fits, Smallest}
 use Rattle.plane.specs.declared.plane_box.PlaneBox.{PlaneBox}
+use Rattle.plane.specs.Spans.{span_of}
 use Rattle.plane.specs.Boxes.{box_of, HasNumbers, columns, rows, holds, within, span, plane}
 use Rattle.plane.specs.Promises.{InRanges, HeldByEither, Worked}
 use Rattle.plane.specs.Lawful.{lawful, hull_made}
@@ -22,14 +23,14 @@ in_ranges b x y h r =
 -- what holds two corners of a box holds the box
 corners : (p t : PlaneBox) → ((n : ℕ) → holds p n ≡ true → holds t n ≡ true) → within p t ≡ true
 corners p t h =
-    let a = p.across in
-    let u = p.up in
-    let r = p.rightmost in
-    let low = ranges t p.x0 p.y0 (omega arith) (h _ (in_ranges p p.x0 p.y0 (omega arith) (omega arith, a, omega arith, u))) in
-    let high = ranges t p.x1 p.y1 (omega arith) (h _ (in_ranges p p.x1 p.y1 (omega arith) (a, omega arith, u, omega arith))) in
+    let a = p.columns.ordered in
+    let u = p.rows.ordered in
+    let r = p.columns.most in
+    let low = ranges t p.columns.low p.rows.low (omega arith) (h _ (in_ranges p p.columns.low p.rows.low (omega arith) (omega arith, a, omega arith, u))) in
+    let high = ranges t p.columns.high p.rows.high (omega arith) (h _ (in_ranges p p.columns.high p.rows.high (omega arith) (a, omega arith, u, omega arith))) in
     within_from p t (omega (arith, low), omega (arith, high), omega (arith, low), omega (arith, high))
 
-hull_smallest : (x p q s : PlaneBox) → within p x ≡ true → within q x ≡ true → HasNumbers (min p.x0 q.x0) (min p.y0 q.y0) (max p.x1 q.x1) (max p.y1 q.y1) s → Smallest plane x (HeldByEither (Some p) (Some q)) (Some s)
+hull_smallest : (x p q s : PlaneBox) → within p x ≡ true → within q x ≡ true → HasNumbers (min p.columns.low q.columns.low) (min p.rows.low q.rows.low) (max p.columns.high q.columns.high) (max p.rows.high q.rows.high) s → Smallest plane x (HeldByEither (Some p) (Some q)) (Some s)
 hull_smallest x p q s v w h =
     let a = within_is p x v in
     let b = within_is q x w in (
@@ -53,5 +54,5 @@ smallest x (Some p) (Some q) v w =
     subst (Smallest plane x (HeldByEither (Some p) (Some q))) (sym m.1) (hull_smallest x p q m.0 v w m.2)
 
 pub worked : Worked
-unfolding box_of run first_live last_live
+unfolding box_of span_of run first_live last_live
 worked = record { largest = refl; too_large = refl; gathered = refl; a_box = refl }

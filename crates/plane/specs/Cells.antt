@@ -25,7 +25,7 @@ ended s l e i p q = grind (arith, nat_tests)
 
 -- there is a box, which has the cells
 abbrev pub Boxed : ℕ → ℕ → ℕ → ℕ → PlaneBox → Type 0
-Boxed x y w h b = (b.x0 ≡ x) × (b.y0 ≡ y) × (suc b.x1 ≡ x + w) × (suc b.y1 ≡ y + h)
+Boxed x y w h b = (b.columns.low ≡ x) × (b.rows.low ≡ y) × (suc b.columns.high ≡ x + w) × (suc b.rows.high ≡ y + h)
 
 pub boxed_holds : (x y w h : ℕ) (b : PlaneBox) → Boxed x y w h b → (n : ℕ) → holds b n ≡ among x y w h n
 boxed_holds x y w h b m n = ap₂ ◌&&◌ (ended (columns b) x (x + w) (n % 4096) m.0 m.2) (ended (rows b) y (y + h) (n / 4096) m.1 m.3)
@@ -68,7 +68,7 @@ module _ (x y w h : ℕ) (across : x + w ≤ 4096) (up : y + h ≤ 4096) where
         | inr c ↦ ap (λ o. times plane n (option_to_list o)) c.0 ∙ none_among n c.1
       ]
 
-  pub cells_within : (p : PlaneBox) → p.x0 ≤ x → p.y0 ≤ y → x + w ≤ suc p.x1 → y + h ≤ suc p.y1 → Inside plane p (option_to_list (cells x y w h))
+  pub cells_within : (p : PlaneBox) → p.columns.low ≤ x → p.rows.low ≤ y → x + w ≤ suc p.columns.high → y + h ≤ suc p.rows.high → Inside plane p (option_to_list (cells x y w h))
   cells_within p a b c d =
       elim cells_cases [
         | inl m ↦ subst (λ o. Inside plane p (option_to_list o)) (sym m.1) (within_from m.0 p (omega (arith, m.2), omega (arith, m.2), omega (arith, m.2), omega (arith, m.2)), tt)
@@ -78,10 +78,10 @@ module _ (x y w h : ℕ) (across : x + w ≤ 4096) (up : y + h ≤ 4096) where
 -- a box that has the cells is made of them
 pub cells_made : (x y w h : ℕ) (b : PlaneBox) → Boxed x y w h b → cells x y w h ≡ Some b
 cells_made x y w h b m =
-    let a = b.across in
-    let u = b.up in
-    let r = b.rightmost in
-    let t = b.topmost in
+    let a = b.columns.ordered in
+    let u = b.rows.ordered in
+    let r = b.columns.most in
+    let t = b.rows.most in
     let c = cells_some x y w h (omega arith) (omega arith) (omega arith) (omega arith) in
     c.1 ∙ ap Some (same_box c.0 b (omega (arith, c.2), omega (arith, c.3), omega (arith, c.4), omega (arith, c.5)))
 

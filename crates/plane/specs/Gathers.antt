@@ -54,43 +54,43 @@ module _ (side : PlaneBox → Stretch) where
 
 -- a run of columns and a run of rows, in x
 module _ (x : PlaneBox) (f g : ℕ → Bool) where
-  pub crossed_fits : (c r : Option Stretch) → Runs f x.x0 (suc x.x1) c → Runs g x.y0 (suc x.y1) r → Fits plane x (crossed c r)
+  pub crossed_fits : (c r : Option Stretch) → Runs f x.columns.low (suc x.columns.high) c → Runs g x.rows.low (suc x.rows.high) r → Fits plane x (crossed c r)
   crossed_fits None r p q = tt
   crossed_fits (Some c) None p q = tt
   crossed_fits (Some c) (Some r) p q =
-      let a = x.rightmost in
-      let b = x.topmost in
+      let a = x.columns.most in
+      let b = x.rows.most in
       let m = box_some c.low r.low c.high r.high (p.1, q.1, omega (arith, p.2), omega (arith, q.2)) in
       let h = m.2 in
       subst (Fits plane x) (sym m.1) (within_from m.0 x (omega (arith, p.0, h), omega (arith, p.2, h), omega (arith, q.0, h), omega (arith, q.2, h)))
 
   -- a point whose column and row are live is in the box
-  pub crossed_holds : (c r : Option Stretch) → Runs f x.x0 (suc x.x1) c → Runs g x.y0 (suc x.y1) r → (n : ℕ) → holds x n ≡ true → f (n % 4096) ≡ true → g (n / 4096) ≡ true → Holds plane (crossed c r) n
+  pub crossed_holds : (c r : Option Stretch) → Runs f x.columns.low (suc x.columns.high) c → Runs g x.rows.low (suc x.rows.high) r → (n : ℕ) → holds x n ≡ true → f (n % 4096) ≡ true → g (n / 4096) ≡ true → Holds plane (crossed c r) n
   crossed_holds c r p q n h u v =
       let a = holds_is x n h in
       let i = covers_is (columns x) (n % 4096) a.0 in
       let j = covers_is (rows x) (n / 4096) a.1 in
       go c r p q i.0 (omega (arith, i)) j.0 (omega (arith, j))
     where
-      go : (c r : Option Stretch) → Runs f x.x0 (suc x.x1) c → Runs g x.y0 (suc x.y1) r → x.x0 ≤ n % 4096 → n % 4096 < suc x.x1 → x.y0 ≤ n / 4096 → n / 4096 < suc x.y1 → Holds plane (crossed c r) n
+      go : (c r : Option Stretch) → Runs f x.columns.low (suc x.columns.high) c → Runs g x.rows.low (suc x.rows.high) r → x.columns.low ≤ n % 4096 → n % 4096 < suc x.columns.high → x.rows.low ≤ n / 4096 → n / 4096 < suc x.rows.high → Holds plane (crossed c r) n
       go None r p q a b c d = both_ways (f (n % 4096)) (p (n % 4096) a b) u
       go (Some s) None p q a b c d = both_ways (g (n / 4096)) (q (n / 4096) c d) v
       go (Some s) (Some t) p q a b c d =
-          let m = box_some s.low t.low s.high t.high (p.1, q.1, omega (arith, p.2, x.rightmost), omega (arith, q.2, x.topmost)) in
+          let m = box_some s.low t.low s.high t.high (p.1, q.1, omega (arith, p.2, x.columns.most), omega (arith, q.2, x.rows.most)) in
           let e = m.2 in
           let i = p.5 (n % 4096) a b u in
           let j = q.5 (n / 4096) c d v in
           subst (λ o. Holds plane o n) (sym m.1) (holds_from m.0 n (covers_from (columns m.0) (n % 4096) (omega (arith, i, e)) (omega (arith, i, e))) (covers_from (rows m.0) (n / 4096) (omega (arith, j, e)) (omega (arith, j, e))))
 
-  crossed_none : (c r : Option Stretch) → Runs f x.x0 (suc x.x1) c → ((i : ℕ) → f i ≡ false) → crossed c r ≡ None
+  crossed_none : (c r : Option Stretch) → Runs f x.columns.low (suc x.columns.high) c → ((i : ℕ) → f i ≡ false) → crossed c r ≡ None
   crossed_none None r p d = refl
   crossed_none (Some c) r p d = absurd (both_ways (f c.low) (d c.low) p.3)
 
-columns_run : (x : PlaneBox) (ps : List PlaneBox) (k : ℕ) → Runs (deep k (map columns ps)) x.x0 (suc x.x1) (deep_columns x ps k)
-columns_run x ps k = run_is (deep k (map columns ps)) x.x0 (wide x) (suc x.x1) (omega (arith, x.across))
+columns_run : (x : PlaneBox) (ps : List PlaneBox) (k : ℕ) → Runs (deep k (map columns ps)) x.columns.low (suc x.columns.high) (deep_columns x ps k)
+columns_run x ps k = run_is (deep k (map columns ps)) x.columns.low (wide x) (suc x.columns.high) (omega (arith, x.columns.ordered))
 
-rows_run : (x : PlaneBox) (ps : List PlaneBox) (k : ℕ) → Runs (deep k (map rows ps)) x.y0 (suc x.y1) (deep_rows x ps k)
-rows_run x ps k = run_is (deep k (map rows ps)) x.y0 (tall x) (suc x.y1) (omega (arith, x.up))
+rows_run : (x : PlaneBox) (ps : List PlaneBox) (k : ℕ) → Runs (deep k (map rows ps)) x.rows.low (suc x.rows.high) (deep_rows x ps k)
+rows_run x ps k = run_is (deep k (map rows ps)) x.rows.low (tall x) (suc x.rows.high) (omega (arith, x.rows.ordered))
 
 pub gather_within : (x : PlaneBox) (ps : List PlaneBox) (k : ℕ) → Fits plane x (gather x ps k)
 gather_within x ps k =
@@ -108,4 +108,4 @@ gather_few x ps k h =
     crossed_none x (deep k (map columns ps)) (deep k (map rows ps)) (deep_columns x ps k) (deep_rows x ps k) (columns_run x ps k) (λ i. few columns ps k i h)
 
 pub gather_order : (x : PlaneBox) (ps qs : List PlaneBox) (k : ℕ) → IsPermutation ps qs → gather x ps k ≡ gather x qs k
-gather_order x ps qs k s = ap₂ crossed (order columns ps qs k x.x0 (wide x) s) (order rows ps qs k x.y0 (tall x) s)
+gather_order x ps qs k s = ap₂ crossed (order columns ps qs k x.columns.low (wide x) s) (order rows ps qs k x.rows.low (tall x) s)

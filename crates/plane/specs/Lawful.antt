@@ -45,10 +45,10 @@ in_row b y x h =
 pub counted : (b : PlaneBox) → wide b * tall b ≡ count_below (holds b) points
 counted b =
     sym (count_grid (holds b) (covers (rows b)) (covers (columns b)) 4096 (in_row b) (2 ^ 20)
-    ∙ ap₂ (λ (h w : ℕ). h * w) (count_covers (rows b) (2 ^ 20) (omega (arith, b.topmost))) (count_covers (columns b) 4096 (omega (arith, b.rightmost))) ∙ omega arith)
+    ∙ ap₂ (λ (h w : ℕ). h * w) (count_covers (rows b) (2 ^ 20) (omega (arith, b.rows.most))) (count_covers (columns b) 4096 (omega (arith, b.columns.most))) ∙ omega arith)
 
 some : (b : PlaneBox) → 0 < wide b * tall b
-some b = omega (arith, mul-le 1 1 (wide b) (tall b) (omega (arith, b.across)) (omega (arith, b.up)))
+some b = omega (arith, mul-le 1 1 (wide b) (tall b) (omega (arith, b.columns.ordered)) (omega (arith, b.rows.ordered)))
 
 reflexive : (b : PlaneBox) → within b b ≡ true
 reflexive b = within_from b b (omega arith, omega arith, omega arith, omega arith)
@@ -77,20 +77,20 @@ same_sides a b c d p q h k e = (
 whole : (q p : PlaneBox) → within q p ≡ true → wide q * tall q ≡ wide p * tall p → q ≡ p
 whole q p w e =
     let a = within_is q p w in
-    let s = same_sides (wide q) (tall q) (wide p) (tall p) (omega (arith, q.across)) (omega (arith, q.up)) (omega (arith, a)) (omega (arith, a)) e in
-    same_box q p (omega (arith, a, s, q.across, p.across), omega (arith, a, s, q.up, p.up), omega (arith, a, s, q.across, p.across), omega (arith, a, s, q.up, p.up))
+    let s = same_sides (wide q) (tall q) (wide p) (tall p) (omega (arith, q.columns.ordered)) (omega (arith, q.rows.ordered)) (omega (arith, a)) (omega (arith, a)) e in
+    same_box q p (omega (arith, a, s, q.columns.ordered, p.columns.ordered), omega (arith, a, s, q.rows.ordered, p.rows.ordered), omega (arith, a, s, q.columns.ordered, p.columns.ordered), omega (arith, a, s, q.rows.ordered, p.rows.ordered))
 
 numbered : (b : PlaneBox) → box_numbered (number b) ≡ Some b
 numbered b = box_by b (number b / 2 ^ 36) (number b / 2 ^ 24 % 2 ^ 12) (number b / 2 ^ 12 % 2 ^ 12) (number b % 2 ^ 12) (sym fields.0, sym fields.1, sym fields.2, sym fields.3)
   where
-    fields : (number b / 2 ^ 36 ≡ b.x0) × (number b / 2 ^ 24 % 2 ^ 12 ≡ b.y0) × (number b / 2 ^ 12 % 2 ^ 12 ≡ b.x1) × (number b % 2 ^ 12 ≡ b.y1)
+    fields : (number b / 2 ^ 36 ≡ b.columns.low) × (number b / 2 ^ 24 % 2 ^ 12 ≡ b.rows.low) × (number b / 2 ^ 12 % 2 ^ 12 ≡ b.columns.high) × (number b % 2 ^ 12 ≡ b.rows.high)
     fields =
-        let x = b.across in
-        let y = b.up in
-        let r = b.rightmost in
-        let t = b.topmost in
-        let y0 : number b / 2 ^ 24 ≡ b.x0 * 2 ^ 12 + b.y0 = omega arith in
-        let x1 : number b / 2 ^ 12 ≡ b.x0 * 2 ^ 24 + b.y0 * 2 ^ 12 + b.x1 = omega arith in
+        let x = b.columns.ordered in
+        let y = b.rows.ordered in
+        let r = b.columns.most in
+        let t = b.rows.most in
+        let y0 : number b / 2 ^ 24 ≡ b.columns.low * 2 ^ 12 + b.rows.low = omega arith in
+        let x1 : number b / 2 ^ 12 ≡ b.columns.low * 2 ^ 24 + b.rows.low * 2 ^ 12 + b.columns.high = omega arith in
         (omega arith, omega arith, omega arith, omega arith)
 
 named : (n : ℕ) (b : PlaneBox) → box_numbered n ≡ Some b → number b ≡ n
@@ -103,8 +103,8 @@ named n b e =
 
 single : (b : PlaneBox) → wide b * tall b ≡ 1 → max (wide b) (tall b) ≡ 1
 single b e =
-    let x = b.across in
-    let y = b.up in
+    let x = b.columns.ordered in
+    let y = b.rows.ordered in
     let s = same_sides 1 1 (wide b) (tall b) (omega arith) (omega arith) (omega arith) (omega arith) (sym e) in
     omega (arith, s)
 
@@ -121,15 +121,15 @@ several b n =
     elim (cases_lt 1 (wide b * tall b)) [ inl h ↦ h | inr h ↦ absurd (n (single b (omega (arith, some b)))) ]
 
 -- the hull is a box in x, holds both, and lies in every box that does
-pub hull_made : (p q : PlaneBox) → (b : PlaneBox) × (hull p q ≡ Some b) × HasNumbers (min p.x0 q.x0) (min p.y0 q.y0) (max p.x1 q.x1) (max p.y1 q.y1) b
+pub hull_made : (p q : PlaneBox) → (b : PlaneBox) × (hull p q ≡ Some b) × HasNumbers (min p.columns.low q.columns.low) (min p.rows.low q.rows.low) (max p.columns.high q.columns.high) (max p.rows.high q.rows.high) b
 hull_made p q =
-    let a = p.across in
-    let b = p.up in
-    let c = p.rightmost in
-    let d = p.topmost in
-    let e = q.rightmost in
-    let f = q.topmost in
-    box_some (min p.x0 q.x0) (min p.y0 q.y0) (max p.x1 q.x1) (max p.y1 q.y1) (omega arith, omega arith, omega arith, omega arith)
+    let a = p.columns.ordered in
+    let b = p.rows.ordered in
+    let c = p.columns.most in
+    let d = p.rows.most in
+    let e = q.columns.most in
+    let f = q.rows.most in
+    box_some (min p.columns.low q.columns.low) (min p.rows.low q.rows.low) (max p.columns.high q.columns.high) (max p.rows.high q.rows.high) (omega arith, omega arith, omega arith, omega arith)
 
 span_within : (x p q : PlaneBox) → within p x ≡ true → within q x ≡ true → MatchOption (hull p q) ⊥ (λ s. (within s x ≡ true) × (within p s ≡ true) × (within q s ≡ true))
 span_within x p q v w =
@@ -145,15 +145,15 @@ span_within x p q v w =
 
 pub height_most : (b : PlaneBox) → log_up (wide b) + log_up (tall b) ≤ 24
 height_most b =
-    let r = b.rightmost in
-    let t = b.topmost in
+    let r = b.columns.most in
+    let t = b.rows.most in
     omega (arith, log_up_least (wide b) 12 (omega arith) (omega arith), log_up_least (tall b) 12 (omega arith) (omega arith))
 
 height_within : (q p : PlaneBox) → within q p ≡ true → log_up (wide q) + log_up (tall q) ≤ log_up (wide p) + log_up (tall p)
 height_within q p w =
     let a = within_is q p w in
-    let r = p.rightmost in
-    let t = p.topmost in
+    let r = p.columns.most in
+    let t = p.rows.most in
     omega (arith, log_up_mono (wide q) (wide p) (omega arith) (omega arith), log_up_mono (tall q) (tall p) (omega arith) (omega arith))
 
 pub lawful : Laws plane

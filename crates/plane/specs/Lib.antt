@@ -1,3 +1,5 @@
+pub mod Spans
+pub mod Ends
 pub mod Boxes
 pub mod Gathering
 pub mod Promises

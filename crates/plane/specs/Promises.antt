@@ -6,7 +6,7 @@ use Rattle.plane.specs.Boxes.{box_of, point, holds, gather, plane}
 
 -- column x and row y are within a box's ranges
 abbrev pub InRanges : PlaneBox → ℕ → ℕ → Type 0
-InRanges b x y = (b.x0 ≤ x) × (x ≤ b.x1) × (b.y0 ≤ y) × (y ≤ b.y1)
+InRanges b x y = (b.columns.low ≤ x) × (x ≤ b.columns.high) × (b.rows.low ≤ y) × (y ≤ b.rows.high)
 
 -- a box holds point 4096·y + x exactly when x and y are within its ranges, and nothing from 2 ^ 24 on;
 -- and each point's number leads back to the point

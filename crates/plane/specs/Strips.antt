@@ -27,24 +27,24 @@ module _ (p q : PlaneBox) (w : Within q p) where
   -- the arithmetic of the four strips, at column i and row j
   cut : (i j : ℕ) →
       bit (covers (columns q) i && covers (rows q) j)
-      + bit (from_to p.x0 (p.x0 + (q.x0 - p.x0)) i && from_to p.y0 (p.y0 + tall p) j)
-      + bit (from_to (q.x1 + 1) (q.x1 + 1 + (p.x1 - q.x1)) i && from_to p.y0 (p.y0 + tall p) j)
-      + bit (from_to q.x0 (q.x0 + wide q) i && from_to p.y0 (p.y0 + (q.y0 - p.y0)) j)
-      + bit (from_to q.x0 (q.x0 + wide q) i && from_to (q.y1 + 1) (q.y1 + 1 + (p.y1 - q.y1)) j)
+      + bit (from_to p.columns.low (p.columns.low + (q.columns.low - p.columns.low)) i && from_to p.rows.low (p.rows.low + tall p) j)
+      + bit (from_to (q.columns.high + 1) (q.columns.high + 1 + (p.columns.high - q.columns.high)) i && from_to p.rows.low (p.rows.low + tall p) j)
+      + bit (from_to q.columns.low (q.columns.low + wide q) i && from_to p.rows.low (p.rows.low + (q.rows.low - p.rows.low)) j)
+      + bit (from_to q.columns.low (q.columns.low + wide q) i && from_to (q.rows.high + 1) (q.rows.high + 1 + (p.rows.high - q.rows.high)) j)
       ≡ bit (covers (columns p) i && covers (rows p) j)
-  cut i j = let a = q.across in let b = q.up in grind (arith, nat_tests)
+  cut i j = let a = q.columns.ordered in let b = q.rows.ordered in grind (arith, nat_tests)
 
-  left_times : (n : ℕ) → times plane n (option_to_list (left_of p q)) ≡ bit (among p.x0 p.y0 (q.x0 - p.x0) (tall p) n)
-  left_times n = cells_times p.x0 p.y0 (q.x0 - p.x0) (tall p) (omega (arith, w, q.across, p.rightmost)) (omega (arith, p.up, p.topmost)) n
+  left_times : (n : ℕ) → times plane n (option_to_list (left_of p q)) ≡ bit (among p.columns.low p.rows.low (q.columns.low - p.columns.low) (tall p) n)
+  left_times n = cells_times p.columns.low p.rows.low (q.columns.low - p.columns.low) (tall p) (omega (arith, w, q.columns.ordered, p.columns.most)) (omega (arith, p.rows.ordered, p.rows.most)) n
 
-  right_times : (n : ℕ) → times plane n (option_to_list (right_of p q)) ≡ bit (among (q.x1 + 1) p.y0 (p.x1 - q.x1) (tall p) n)
-  right_times n = cells_times (q.x1 + 1) p.y0 (p.x1 - q.x1) (tall p) (omega (arith, w, p.rightmost)) (omega (arith, p.up, p.topmost)) n
+  right_times : (n : ℕ) → times plane n (option_to_list (right_of p q)) ≡ bit (among (q.columns.high + 1) p.rows.low (p.columns.high - q.columns.high) (tall p) n)
+  right_times n = cells_times (q.columns.high + 1) p.rows.low (p.columns.high - q.columns.high) (tall p) (omega (arith, w, p.columns.most)) (omega (arith, p.rows.ordered, p.rows.most)) n
 
-  below_times : (n : ℕ) → times plane n (option_to_list (below p q)) ≡ bit (among q.x0 p.y0 (wide q) (q.y0 - p.y0) n)
-  below_times n = cells_times q.x0 p.y0 (wide q) (q.y0 - p.y0) (omega (arith, q.across, q.rightmost)) (omega (arith, w, q.up, q.topmost)) n
+  below_times : (n : ℕ) → times plane n (option_to_list (below p q)) ≡ bit (among q.columns.low p.rows.low (wide q) (q.rows.low - p.rows.low) n)
+  below_times n = cells_times q.columns.low p.rows.low (wide q) (q.rows.low - p.rows.low) (omega (arith, q.columns.ordered, q.columns.most)) (omega (arith, w, q.rows.ordered, q.rows.most)) n
 
-  above_times : (n : ℕ) → times plane n (option_to_list (above p q)) ≡ bit (among q.x0 (q.y1 + 1) (wide q) (p.y1 - q.y1) n)
-  above_times n = cells_times q.x0 (q.y1 + 1) (wide q) (p.y1 - q.y1) (omega (arith, q.across, q.rightmost)) (omega (arith, w, p.topmost)) n
+  above_times : (n : ℕ) → times plane n (option_to_list (above p q)) ≡ bit (among q.columns.low (q.rows.high + 1) (wide q) (p.rows.high - q.rows.high) n)
+  above_times n = cells_times q.columns.low (q.rows.high + 1) (wide q) (p.rows.high - q.rows.high) (omega (arith, q.columns.ordered, q.columns.most)) (omega (arith, w, p.rows.most)) n
 
   pub stripped : Parts plane p (q ∷ strips p q)
   stripped n =
@@ -53,15 +53,15 @@ module _ (p q : PlaneBox) (w : Within q p) where
 
   pub strips_within : Inside plane p (strips p q)
   strips_within =
-      let a = q.across in
-      let b = q.up in
-      let r = p.rightmost in
-      let t = p.topmost in
+      let a = q.columns.ordered in
+      let b = q.rows.ordered in
+      let r = p.columns.most in
+      let t = p.rows.most in
       let Q : PlaneBox → Type 0 = λ s. within s p ≡ true in
-      All-append Q (option_to_list (left_of p q)) _ (cells_within p.x0 p.y0 (q.x0 - p.x0) (tall p) (omega arith) (omega arith) p (omega arith) (omega arith) (omega arith) (omega arith))
-      (All-append Q (option_to_list (right_of p q)) _ (cells_within (q.x1 + 1) p.y0 (p.x1 - q.x1) (tall p) (omega arith) (omega arith) p (omega arith) (omega arith) (omega arith) (omega arith))
-      (All-append Q (option_to_list (below p q)) _ (cells_within q.x0 p.y0 (wide q) (q.y0 - p.y0) (omega arith) (omega arith) p (omega arith) (omega arith) (omega arith) (omega arith))
-      (cells_within q.x0 (q.y1 + 1) (wide q) (p.y1 - q.y1) (omega arith) (omega arith) p (omega arith) (omega arith) (omega arith) (omega arith))))
+      All-append Q (option_to_list (left_of p q)) _ (cells_within p.columns.low p.rows.low (q.columns.low - p.columns.low) (tall p) (omega arith) (omega arith) p (omega arith) (omega arith) (omega arith) (omega arith))
+      (All-append Q (option_to_list (right_of p q)) _ (cells_within (q.columns.high + 1) p.rows.low (p.columns.high - q.columns.high) (tall p) (omega arith) (omega arith) p (omega arith) (omega arith) (omega arith) (omega arith))
+      (All-append Q (option_to_list (below p q)) _ (cells_within q.columns.low p.rows.low (wide q) (q.rows.low - p.rows.low) (omega arith) (omega arith) p (omega arith) (omega arith) (omega arith) (omega arith))
+      (cells_within q.columns.low (q.rows.high + 1) (wide q) (p.rows.high - q.rows.high) (omega arith) (omega arith) p (omega arith) (omega arith) (omega arith) (omega arith))))
 
   pub strips_few : length (strips p q) ≤ 4
   strips_few =

@@ -7,20 +7,20 @@ use Rattle.plane.specs.declared.plane_box.PlaneBox.{PlaneBox}
 use Rattle.plane.specs.Boxes.{columns, rows, lies_in, within, holds}
 
 abbrev pub Within : PlaneBox → PlaneBox → Type 0
-Within q p = (p.x0 ≤ q.x0) × (q.x1 ≤ p.x1) × (p.y0 ≤ q.y0) × (q.y1 ≤ p.y1)
+Within q p = (p.columns.low ≤ q.columns.low) × (q.columns.high ≤ p.columns.high) × (p.rows.low ≤ q.rows.low) × (q.rows.high ≤ p.rows.high)
 
 pub within_is : (q p : PlaneBox) → within q p ≡ true → Within q p
 within_is q p w =
     let a = and_parts (lies_in (columns q) (columns p)) (lies_in (rows q) (rows p)) w in
-    let b = and_parts (nat_le p.x0 q.x0) (nat_le q.x1 p.x1) a.0 in
-    let c = and_parts (nat_le p.y0 q.y0) (nat_le q.y1 p.y1) a.1 in
-    (leb-true p.x0 q.x0 b.0, leb-true q.x1 p.x1 b.1, leb-true p.y0 q.y0 c.0, leb-true q.y1 p.y1 c.1)
+    let b = and_parts (nat_le p.columns.low q.columns.low) (nat_le q.columns.high p.columns.high) a.0 in
+    let c = and_parts (nat_le p.rows.low q.rows.low) (nat_le q.rows.high p.rows.high) a.1 in
+    (leb-true p.columns.low q.columns.low b.0, leb-true q.columns.high p.columns.high b.1, leb-true p.rows.low q.rows.low c.0, leb-true q.rows.high p.rows.high c.1)
 
 pub within_from : (q p : PlaneBox) → Within q p → within q p ≡ true
 within_from q p w =
     and_from (lies_in (columns q) (columns p)) (lies_in (rows q) (rows p))
-    (and_from (nat_le p.x0 q.x0) (nat_le q.x1 p.x1) (le-leb p.x0 q.x0 w.0) (le-leb q.x1 p.x1 w.1))
-    (and_from (nat_le p.y0 q.y0) (nat_le q.y1 p.y1) (le-leb p.y0 q.y0 w.2) (le-leb q.y1 p.y1 w.3))
+    (and_from (nat_le p.columns.low q.columns.low) (nat_le q.columns.high p.columns.high) (le-leb p.columns.low q.columns.low w.0) (le-leb q.columns.high p.columns.high w.1))
+    (and_from (nat_le p.rows.low q.rows.low) (nat_le q.rows.high p.rows.high) (le-leb p.rows.low q.rows.low w.2) (le-leb q.rows.high p.rows.high w.3))
 
 -- a stretch holds an index, as inequalities
 pub covers_is : (s : Stretch) (i : ℕ) → covers s i ≡ true → (s.low ≤ i) × (i ≤ s.high)

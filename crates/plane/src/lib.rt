@@ -2,3 +2,4 @@
 #![tactic(auto)]
 
 pub mod plane_box;
+pub mod span;

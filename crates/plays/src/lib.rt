@@ -2,5 +2,6 @@
 #![tactic(auto)]
 
 pub mod both_plays;
-pub mod numbers;
+pub mod lengths;
 pub mod plays;
+pub mod same_answers;

@@ -7,7 +7,7 @@ use Rattle.readings.specs.Lines.{Begins, Keyed, Numbers}
 use Rattle.readings.specs.Requests.{Further, entered}
 use Rattle.readings.specs.declared.readings.Readings.{Readings}
 use Rattle.sheet.specs.declared.grain.Grain.{Grain}
-use Rattle.readings.specs.Sorts.{EndValue, NextLine, entering}
+use Rattle.readings.specs.Sorts.{EndValue, NextLine, entering, full}
 
 module _ {R : Type 0} where
   -- readings in front of what the rest comes to
@@ -27,35 +27,43 @@ module _ {R : Type 0} where
   after_none (Ok ys) = refl
   after_none (Err f) = refl
 
-  -- only the first sixteen are entered
-  entered_by : (b : Bool) (n : ℕ) (x y : R) → ltb n 16 ≡ b → ◌≡◌ {A = Result (Option R) ℕ} (Ok (Some x)) (elim b [ true ↦ Ok (Some y) | false ↦ Err 6 ]) → n < 16
-  entered_by true n x y t e = ltb-true n 16 t
-  entered_by false n x y t e = let z : ◌≡◌ {A = ℕ} 0 1 = cc in absurd (omega arith)
+  -- only the first sixteen are entered, and each as it was read
+  entered_by : (b : Bool) (n : ℕ) (x y : R) → ltb n 16 ≡ b → ◌≡◌ {A = Result (Option R) ℕ} (Ok (Some x)) (elim b [ true ↦ Ok (Some y) | false ↦ Err 6 ]) → (n < 16) × (y ≡ x)
+  entered_by true n x y t e = (ltb-true n 16 t, (let z : y ≡ x = cc in z))
+  entered_by false n x y t e = cc
 
-  refused_by : (b : Bool) (n e f : ℕ) (x : R) → ◌≡◌ {A = Result (Option R) ℕ} (Ok (Some x)) (elim b [ true ↦ Err e | false ↦ Err f ]) → n < 16
-  refused_by true n e f x q = let z : ◌≡◌ {A = ℕ} 0 1 = cc in absurd (omega arith)
-  refused_by false n e f x q = let z : ◌≡◌ {A = ℕ} 0 1 = cc in absurd (omega arith)
+  refused_by : (b : Bool) (o : Option R) (e f : ℕ) → ◌≡◌ {A = Result (Option R) ℕ} (Ok o) (elim b [ true ↦ Err e | false ↦ Err f ]) → ⊥
+  refused_by true o e f q = cc
+  refused_by false o e f q = cc
 
-  entering_few : (n : ℕ) (x : R) (q : Result R ℕ) → Ok (Some x) ≡ entering n q → n < 16
-  entering_few n x (Ok y) e = entered_by (ltb n 16) n x y refl e
-  entering_few n x (Err y) e = refused_by (ltb n 16) n _ _ x e
+  not_end : (b : Bool) (y : R) → ◌≡◌ {A = Result (Option R) ℕ} (Ok None) (elim b [ true ↦ Ok (Some y) | false ↦ Err 6 ]) → ⊥
+  not_end true y e = cc
+  not_end false y e = cc
+
+  entering_some : (n : ℕ) (x : R) (q : Result R ℕ) → Ok (Some x) ≡ entering n q → (n < 16) × (q ≡ Ok x)
+  entering_some n x (Ok y) e = let k = entered_by (ltb n 16) n x y refl e in (k.0, ap Ok k.1)
+  entering_some n x (Err y) e = absurd (refused_by (ltb n 16) (Some x) y (full y) e)
+
+  pub entering_none : (n : ℕ) (q : Result R ℕ) → Ok None ≡ entering n q → ⊥
+  entering_none n (Ok y) e = not_end (ltb n 16) y e
+  entering_none n (Err y) e = refused_by (ltb n 16) None y (full y) e
 
 module _ {R : Type 0} (J : List ℕ → Bool → Result R ℕ → Type 0) where
   -- the end is no reading
   end_keyed : (b ended : Bool) (n : ℕ) (text : List ℕ) (x : R) → cond b (◌≡◌ {A = Result (Option R) ℕ} (Ok (Some x)) (Err 15)) (Keyed (codes "end=") (Numbers 1 (EndValue n)) text ended (Ok (Some x))) → ⊥
-  end_keyed true ended n text x q = let z : ◌≡◌ {A = ℕ} 0 1 = cc in omega arith
-  end_keyed false ended n text x (inl (none, q)) = let z : ◌≡◌ {A = ℕ} 0 1 = cc in omega arith
-  end_keyed false true n text x (inr (v, e, inl (zs, l, inl (o, h, q)))) = let k = h.0 in let z : ◌≡◌ {A = ℕ} 0 1 = cc in omega arith
-  end_keyed false true n text x (inr (v, e, inl (zs, l, inr (none, h)))) = let q = h.2 in let z : ◌≡◌ {A = ℕ} 0 1 = cc in omega arith
-  end_keyed false true n text x (inr (v, e, inr (none, q))) = let z : ◌≡◌ {A = ℕ} 0 1 = cc in omega arith
-  end_keyed false false n text x (inr (v, e, q)) = let z : ◌≡◌ {A = ℕ} 0 1 = cc in omega arith
+  end_keyed true ended n text x q = cc
+  end_keyed false ended n text x (inl (none, q)) = cc
+  end_keyed false true n text x (inr (v, e, inl (zs, l, inl (o, h, q)))) = let k = h.0 in cc
+  end_keyed false true n text x (inr (v, e, inl (zs, l, inr (none, h)))) = let q = h.2 in cc
+  end_keyed false true n text x (inr (v, e, inr (none, q))) = cc
+  end_keyed false false n text x (inr (v, e, q)) = cc
 
   pub next_is : (n : ℕ) (text : List ℕ) (ended : Bool) (o p : Option R) → o ≡ p → NextLine J n text ended (Ok o) → NextLine J n text ended (Ok p)
   next_is n text ended o p e k = subst (λ (o : Option R). NextLine J n text ended (Ok o)) e k
 
-  pub next_few : (n : ℕ) (text : List ℕ) (ended : Bool) (x : R) → NextLine J n text ended (Ok (Some x)) → n < 16
-  next_few n text ended x (inl ((q, j, e), k)) = entering_few n x q e
-  next_few n text ended x (inr (j, k)) = absurd (end_keyed (eqb n 0) ended n text x k)
+  pub next_some : (n : ℕ) (text : List ℕ) (ended : Bool) (x : R) → NextLine J n text ended (Ok (Some x)) → (n < 16) × J text ended (Ok x)
+  next_some n text ended x (inl ((q, j, e), k)) = let s = entering_some n x q e in (s.0, subst (J text ended) s.1 j)
+  next_some n text ended x (inr (j, k)) = absurd (end_keyed (eqb n 0) ended n text x k)
 
   -- The first reading and others are read, and what the rest comes to is what all comes to.
   pub record Midway (begun : List R) (rest : List ℕ) (rs : List R) (n : ℕ) (left : List ℕ) : Type 0 where
@@ -104,7 +112,7 @@ module _ {R : Type 0} (J : List ℕ → Bool → Result R ℕ → Type 0) where
   pub first_ok : (rest text after : List ℕ) (ended : Bool) (first : R) (r : Result (List R) (ℕ × ℕ)) → Begins rest text ended after → J text ended (Ok first) → Further J first after r → Rest J 0 rest r
   first_ok rest text after ended first r b j (s, h, e) =
       subst (λ z. Rest J 0 rest z) (sym e)
-      (another b (inl ((Ok first, j, refl), λ q. let z : ◌≡◌ {A = ℕ} 0 1 = cc in absurd (omega arith))) h)
+      (another b (inl ((Ok first, j, refl), λ q. cc)) h)
 
   first_next : (t : Bool) (e : ℕ) (text : List ℕ) (ended : Bool) → eqb e 15 ≡ t → J text ended (Err e) → NextLine J 0 text ended (Err e)
   first_next true e text ended q j =

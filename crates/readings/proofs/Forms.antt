@@ -19,11 +19,8 @@ use Rattle.readings.proofs.Bodies.{few_enough}
 use Rattle.readings.proofs.Chains.{passed}
 use Rattle.readings.proofs.Nexts.{tail_text, rest_writes, rest_reads}
 use Rattle.readings.proofs.Once.{One, Sure, then_one, rest_one}
-use Rattle.readings.proofs.Texts.{listed_short, small_natural}
+use Rattle.readings.proofs.Texts.{listed_short, natural_fits}
 use Rattle.readings.proofs.Writes.{Writes, Any, sheet_sort, liars_sort, grain_sort, box_sort, arc_sort, plane_sort, dial_sort, plane_text, other_key}
-
-ok_err : {X Y : Type 0} (x : X) (e : Y) → ◌≡◌ {A = Result X Y} (Ok x) (Err e) → ⊥
-ok_err x e q = let z : ◌≡◌ {A = ℕ} 0 1 = cc in omega arith
 
 -- one outcome
 body_one : {P R : Type 0} (V : List ℕ → Result P ℕ → Type 0) (J : List ℕ → Bool → Result R ℕ → Type 0) → Sure (StartLine V) → Sure J → (q : ℕ) (g : Grain) (rest : List ℕ) → One (Body V J q g rest)
@@ -65,7 +62,7 @@ module _ {X : Type 0} {J : List ℕ → Bool → Result X ℕ → Type 0} {Good 
   reads_line {Y} k K rest y t = by t.comes
     where
       by : ((e : ℕ) × J t.text t.ended (Err e) × (◌≡◌ {A = Result Y (ℕ × ℕ)} (Ok y) (Err (e, k)))) ⊎ ((x : X) × J t.text t.ended (Ok x) × K x t.after (Ok y)) → (x : X) × (after : List ℕ) × (rest ≡ line key (value x) ++ after) × Good x × K x after (Ok y)
-      by (inl (e, j, q)) = absurd (ok_err y (e, k) q)
+      by (inl (e, j, q)) = cc
       by (inr (x, j, h)) =
           let m = w.reads t.text t.ended x j in
           let b : Begins rest (key ++ value x) true t.after = subst (λ (c : Bool). Begins rest (key ++ value x) c t.after) m.0 (subst (λ (u : List ℕ). Begins rest u t.ended t.after) m.1 t.begins) in
@@ -95,14 +92,14 @@ module _ {P R : Type 0} {V : List ℕ → Result P ℕ → Type 0} {J : List ℕ
 
   judged_by : (b : Bool) (q : ℕ) (g : Grain) (p : P) (rs : List R) (m : Meant P R) → ltb q (length rs) ≡ b → ◌≡◌ {A = Result (Meant P R) (ℕ × ℕ)} (Ok m) (elim b [ true ↦ Ok (record { liars = q; grain = g; start = p; readings = rs }) | false ↦ Err (8, 2) ]) → (q < length rs) × (m ≡ record { liars = q; grain = g; start = p; readings = rs })
   judged_by true q g p rs m t e = (ltb-true q (length rs) t, (let z : m ≡ record { liars = q; grain = g; start = p; readings = rs } = cc in z))
-  judged_by false q g p rs m t e = absurd (ok_err m (8, 2) e)
+  judged_by false q g p rs m t e = cc
 
   -- a body that comes to something is written of it
   abbrev BodyOf : ℕ → Grain → List ℕ → Meant P R → Type 0
   BodyOf q g rest m = (m.liars ≡ q) × (m.grain ≡ g) × Sensible m × (rest ≡ body_text m.start m.readings)
 
   body_by : (q : ℕ) (g : Grain) (p : P) (after : List ℕ) (m : Meant P R) (s : Result (List R) (ℕ × ℕ)) → Rest J 0 after s → Ok m ≡ judged q g p s → (rest : List ℕ) → rest ≡ line (codes "start=") (start p) ++ after → BodyOf q g rest m
-  body_by q g p after m (Err f) h e rest r = absurd (ok_err m f e)
+  body_by q g p after m (Err f) h e rest r = cc
   body_by q g p after m (Ok rs) h e rest r =
       let k = judged_by (ltb q (length rs)) q g p rs m refl e in
       let t = rest_reads w no_end 0 after (Ok rs) rs (omega arith) h refl in
@@ -129,7 +126,7 @@ module _ {P R : Type 0} {V : List ℕ → Result P ℕ → Type 0} {J : List ℕ
       omega (arith, length-append (reading x) (flat_map reading rs), ap length (spelled x), length-append (text x) (10 ∷ []), w.short x tt, readings_short rs)
 
   end_short : (n : ℕ) → n ≤ 16 → length (line (codes "end=") (decimal n)) ≤ 91
-  end_short n h = omega (arith, length-append (decimal n) (10 ∷ []), listed_short (pos n ∷ []) (small_natural n (omega arith), tt))
+  end_short n h = omega (arith, length-append (decimal n) (10 ∷ []), listed_short (pos n ∷ []) (natural_fits n (omega arith)))
 
   lines_short : (k : Kind) (m : Meant P R) → Sensible m → length (lines k start reading m) ≤ 4096
   lines_short k m h =
@@ -191,11 +188,11 @@ comes_written file (on_dial m) (h, e) =
 -- and only such a file comes to it
 told_plane : (x : Result (Meant PlaneBox PlaneReading) (ℕ × ℕ)) (s : Survey) → Ok s ≡ told on_plane x → (m : Meant PlaneBox PlaneReading) × (x ≡ Ok m) × (s ≡ on_plane m)
 told_plane (Ok m) s e = (m, refl, (let z : s ≡ on_plane m = cc in z))
-told_plane (Err f) s e = absurd (ok_err s f e)
+told_plane (Err f) s e = cc
 
 told_dial : (x : Result (Meant Arc ArcReading) (ℕ × ℕ)) (s : Survey) → Ok s ≡ told on_dial x → (m : Meant Arc ArcReading) × (x ≡ Ok m) × (s ≡ on_dial m)
 told_dial (Ok m) s e = (m, refl, (let z : s ≡ on_dial m = cc in z))
-told_dial (Err f) s e = absurd (ok_err s f e)
+told_dial (Err f) s e = cc
 
 kinds_read : (k : Kind) (file after rest last : List ℕ) (q : ℕ) (g : Grain) (s : Survey) → file ≡ line (codes "sheet=") (name k) ++ after → after ≡ line (codes "liars=") (decimal q) ++ rest → rest ≡ line (codes "grain=") (decimal g.size) ++ last → Bodies k q g last (Ok s) → HasForm file s
 kinds_read Plane file after rest last q g s e f h (x, b, t) =
@@ -208,7 +205,7 @@ kinds_read Dial file after rest last q g s e f h (x, b, t) =
     subst (HasForm file) (sym k.2) (headed arc_sort dial_sort dial_no_end arc_line dial_spelled Dial file after rest last q g k.0 e f h o)
 
 pub comes_read : (file : List ℕ) (s : Survey) → Comes file (Ok s) → HasForm file s
-comes_read file s (inl (h, q)) = absurd (ok_err s (18, 0) q)
+comes_read file s (inl (h, q)) = cc
 comes_read file s (inr (h, t)) =
     let a = reads_line (codes "sheet=") name sheet_sort 1 (λ k. Then LiarsLine 2 (λ q. Then GrainLine 3 (λ g. Bodies k q g))) file s t in
     let b = reads_line (codes "liars=") decimal liars_sort 2 (λ q. Then GrainLine 3 (λ g. Bodies a.0 q g)) a.1 s a.4 in

@@ -1,19 +1,16 @@
 -- The lines after the start: what is written is read, and nothing else is.
 use Rattle.std.proofs.Common.{◌≡◌, ℕ, suc, ◌+◌, ◌<◌, ◌≤◌, Bool, true, false, cond, eqb, ltb, List, [], ◌∷◌, ◌++◌, length, pos, Some, None, Ok, Err, codes, decimal, Option, Result, sym, refl, ap, ◌∙◌, subst, inl, inr, add-zero, arith}
 use Rattle.std.specs.List.{flat_map}
-use Rattle.std.proofs.ByRecursion.{All-append}
+use Rattle.std.proofs.lemmas.List.Elements.{All-append}
 use Rattle.std.proofs.lemmas.List.{append_assoc}
 use Rattle.std.proofs.lemmas.Bool.{lt-ltb, eqb-false, ne_eqb}
 use Rattle.numerals.specs.Lists.{listed}
 use Rattle.readings.specs.Files.{Rest, refused, last, beyond, another}
 use Rattle.readings.specs.Lines.{Begins, Numbers, Keyed}
-use Rattle.readings.specs.Sorts.{EndValue, NextLine, entering, full}
-use Rattle.readings.proofs.Bodies.{next_few}
-use Rattle.readings.proofs.Texts.{without_end, listed_without, small_natural}
+use Rattle.readings.specs.Sorts.{EndValue, NextLine}
+use Rattle.readings.proofs.Bodies.{next_some, entering_none}
+use Rattle.readings.proofs.Texts.{without_end, listed_without, natural_fits}
 use Rattle.readings.proofs.Writes.{Writes, Any}
-
-ok_err : {X Y : Type 0} (x : X) (e : Y) → ◌≡◌ {A = Result X Y} (Ok x) (Err e) → ⊥
-ok_err x e q = let z : ◌≡◌ {A = ℕ} 0 1 = cc in omega arith
 
 -- the text of the last line
 abbrev pub end_text : ℕ → List ℕ
@@ -22,7 +19,7 @@ end_text n = codes "end=" ++ decimal n
 pub end_begins : (n : ℕ) → n ≤ 16 → Begins (end_text n ++ 10 ∷ []) (end_text n) true []
 end_begins n h =
     record {
-      line = All-append _ (codes "end=") (decimal n) (without_end (codes "end=") refl) (listed_without (pos n ∷ []) (small_natural n (omega arith), tt));
+      line = All-append (λ b. b ≡ 10 → ⊥) (codes "end=") (decimal n) (without_end (codes "end=") refl) (listed_without (pos n ∷ []) (natural_fits n (omega arith)));
       joined = refl;
     }
 
@@ -30,56 +27,21 @@ module _ {R : Type 0} (J : List ℕ → Bool → Result R ℕ → Type 0) where
   -- one more reading
   some_by : (b : Bool) (x : R) → b ≡ true → ◌≡◌ {A = Result (Option R) ℕ} (Ok (Some x)) (elim b [ true ↦ Ok (Some x) | false ↦ Err 6 ])
   some_by true x e = refl
-  some_by false x e = let z : ◌≡◌ {A = ℕ} 0 1 = cc in absurd (omega arith)
+  some_by false x e = cc
 
   pub next_another : (n : ℕ) (text : List ℕ) (x : R) → n < 16 → J text true (Ok x) → NextLine J n text true (Ok (Some x))
-  next_another n text x h j = inl ((Ok x, j, some_by (ltb n 16) x (lt-ltb n 16 h)), ok_err (Some x) 15)
-
-  read_by : (b : Bool) (x y : R) → ◌≡◌ {A = Result (Option R) ℕ} (Ok (Some x)) (elim b [ true ↦ Ok (Some y) | false ↦ Err 6 ]) → y ≡ x
-  read_by true x y e = (let z : y ≡ x = cc in z)
-  read_by false x y e = absurd (ok_err (Some x) 6 e)
-
-  not_read : (b : Bool) (o : Option R) (e f : ℕ) → ◌≡◌ {A = Result (Option R) ℕ} (Ok o) (elim b [ true ↦ Err e | false ↦ Err f ]) → ⊥
-  not_read true o e f q = ok_err o e q
-  not_read false o e f q = ok_err o f q
-
-  entering_some : (n : ℕ) (text : List ℕ) (ended : Bool) (x : R) (q : Result R ℕ) → J text ended q → Ok (Some x) ≡ entering n q → J text ended (Ok x)
-  entering_some n text ended x (Ok y) j e = subst (λ (z : R). J text ended (Ok z)) (read_by (ltb n 16) x y e) j
-  entering_some n text ended x (Err y) j e = absurd (not_read (ltb n 16) (Some x) y (full y) e)
-
-  none_some : (x : R) → ◌≡◌ {A = Result (Option R) ℕ} (Ok None) (Ok (Some x)) → ⊥
-  none_some x q = let z : ◌≡◌ {A = ℕ} 0 1 = cc in omega arith
-
-  not_end : (b : Bool) (y : R) → ◌≡◌ {A = Result (Option R) ℕ} (Ok None) (elim b [ true ↦ Ok (Some y) | false ↦ Err 6 ]) → ⊥
-  not_end true y e = none_some y e
-  not_end false y e = ok_err None 6 e
-
-  entering_none : (n : ℕ) (q : Result R ℕ) → Ok None ≡ entering n q → ⊥
-  entering_none n (Ok y) e = not_end (ltb n 16) y e
-  entering_none n (Err y) e = not_read (ltb n 16) None y (full y) e
+  next_another n text x h j = inl ((Ok x, j, some_by (ltb n 16) x (lt-ltb n 16 h)), λ q. cc)
 
   -- what an end line says
-  end_some : (b ended : Bool) (n : ℕ) (text : List ℕ) (x : R) → cond b (◌≡◌ {A = Result (Option R) ℕ} (Ok (Some x)) (Err 15)) (Keyed (codes "end=") (Numbers 1 (EndValue {R = R} n)) text ended (Ok (Some x))) → ⊥
-  end_some true ended n text x q = ok_err (Some x) 15 q
-  end_some false ended n text x (inl (none, q)) = ok_err (Some x) 15 q
-  end_some false true n text x (inr (v, e, inl (zs, l, inl (o, h, q)))) = let k = h.0 in none_some x (let z : ◌≡◌ {A = Result (Option R) ℕ} (Ok None) (Ok (Some x)) = cc in z)
-  end_some false true n text x (inr (v, e, inl (zs, l, inr (none, h)))) = ok_err (Some x) h.0 h.2
-  end_some false true n text x (inr (v, e, inr (none, q))) = ok_err (Some x) 16 q
-  end_some false false n text x (inr (v, e, q)) = ok_err (Some x) 16 q
-
-  pub next_reading : (n : ℕ) (text : List ℕ) (ended : Bool) (x : R) → NextLine J n text ended (Ok (Some x)) → J text ended (Ok x)
-  next_reading n text ended x (inl ((q, j, e), k)) = entering_some n text ended x q j e
-  next_reading n text ended x (inr (j, k)) = absurd (end_some (eqb n 0) ended n text x k)
-
   end_none : (b ended : Bool) (n : ℕ) (text : List ℕ) → eqb n 0 ≡ b → cond b (◌≡◌ {A = Result (Option R) ℕ} (Ok None) (Err 15)) (Keyed (codes "end=") (Numbers 1 (EndValue {R = R} n)) text ended (Ok None)) → (0 < n) × (ended ≡ true) × (text ≡ end_text n)
-  end_none true ended n text t q = absurd (ok_err None 15 q)
-  end_none false ended n text t (inl (none, q)) = absurd (ok_err None 15 q)
+  end_none true ended n text t q = cc
+  end_none false ended n text t (inl (none, q)) = cc
   end_none false true n text t (inr (v, e, inl (zs, l, inl (o, h, q)))) =
       let k = eqb-false n 0 t in
       (omega (arith, k), refl, e ∙ ap (λ u. codes "end=" ++ u) (l.written ∙ ap listed h.1))
-  end_none false true n text t (inr (v, e, inl (zs, l, inr (none, h)))) = absurd (ok_err None h.0 h.2)
-  end_none false true n text t (inr (v, e, inr (none, q))) = absurd (ok_err None 16 q)
-  end_none false false n text t (inr (v, e, q)) = absurd (ok_err None 16 q)
+  end_none false true n text t (inr (v, e, inl (zs, l, inr (none, h)))) = let q = h.2 in cc
+  end_none false true n text t (inr (v, e, inr (none, q))) = cc
+  end_none false false n text t (inr (v, e, q)) = cc
 
   pub next_end : (n : ℕ) (text : List ℕ) (ended : Bool) → NextLine J n text ended (Ok None) → (0 < n) × (ended ≡ true) × (text ≡ end_text n)
   next_end n text ended (inl ((q, j, e), k)) = absurd (entering_none n q e)
@@ -95,7 +57,7 @@ module _ {R : Type 0} (J : List ℕ → Bool → Result R ℕ → Type 0) where
       inr (
         (Err 15, j, other_by (ltb n 16)),
         subst (λ (b : Bool). cond b (◌≡◌ {A = Result (Option R) ℕ} (Ok None) (Err 15)) (Keyed (codes "end=") (Numbers 1 (EndValue {R = R} n)) (end_text n) true (Ok None))) (sym (ne_eqb n 0 (λ e. omega (arith, e))))
-            (inr (decimal n, refl, inl (pos n ∷ [], record { count = refl; fit = (small_natural n (omega arith), tt); written = refl }, inl (None, (refl, refl), refl)))),
+            (inr (decimal n, refl, inl (pos n ∷ [], record { count = refl; fit = natural_fits n (omega arith); written = refl }, inl (None, (refl, refl), refl)))),
       )
 
 -- the readings and the end
@@ -118,7 +80,7 @@ module _ {R : Type 0} {J : List ℕ → Bool → Result R ℕ → Type 0} {text 
 
   cons_told : (n : ℕ) (rest after t : List ℕ) (ended : Bool) (x : R) (rs : List R) → Begins rest t ended after → NextLine J n t ended (Ok (Some x)) → Told (suc n) after rs → Told n rest (x ∷ rs)
   cons_told n rest after t ended x rs b k (h, l, e) =
-      let j = w.reads t ended x (next_reading J n t ended x k) in
+      let j = w.reads t ended x (next_some J n t ended x k).1 in
       let s : suc n + length rs ≡ n + suc (length rs) = omega arith in
       let b' : Begins rest (text x) true after = subst (λ (c : Bool). Begins rest (text x) c after) j.0 (subst (λ (u : List ℕ). Begins rest u ended after) j.1 b) in (
         omega arith,
@@ -127,15 +89,15 @@ module _ {R : Type 0} {J : List ℕ → Bool → Result R ℕ → Type 0} {text 
       )
 
   pub rest_reads : (n : ℕ) (rest : List ℕ) (r : Result (List R) (ℕ × ℕ)) (rs : List R) → n ≤ 16 → Rest J n rest r → r ≡ Ok rs → Told n rest rs
-  rest_reads n rest r rs l (refused {e = e} b k) q = absurd (ok_err rs (e, 5 + n) (sym q))
+  rest_reads n rest r rs l (refused {e = e} b k) q = cc
   rest_reads n rest r rs l (last {text = t} {ended = ended} b k) q =
       let z : rs ≡ [] = cc in
       let j = next_end J n t ended k in
       let b' : Begins rest (end_text n) true [] = subst (λ (c : Bool). Begins rest (end_text n) c []) j.1 (subst (λ (u : List ℕ). Begins rest u ended []) j.2 b) in
       subst (λ (ys : List R). Told n rest ys) (sym z) (omega (arith, j.0), omega arith, b'.joined ∙ ap (λ (i : ℕ). end_text i ++ 10 ∷ []) (sym (add-zero n)))
-  rest_reads n rest r rs l (beyond b k f) q = absurd (ok_err rs (15, 6 + n) (sym q))
+  rest_reads n rest r rs l (beyond b k f) q = cc
   rest_reads n rest r rs l (another {text = t} {after = after} {ended = ended} {x = x} {r = Ok ys} b k h) q =
       let z : rs ≡ x ∷ ys = cc in
-      let m = next_few J n t ended x k in
+      let m = (next_some J n t ended x k).0 in
       subst (λ (zs : List R). Told n rest zs) (sym z) (cons_told n rest after t ended x ys b k (rest_reads (suc n) after (Ok ys) ys (omega arith) h refl))
-  rest_reads n rest r rs l (another {x = x} {r = Err f} b k h) q = absurd (ok_err rs f (sym q))
+  rest_reads n rest r rs l (another {x = x} {r = Err f} b k h) q = cc

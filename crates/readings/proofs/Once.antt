@@ -1,5 +1,5 @@
 -- A line, a value, a file comes to one thing only.
-use Rattle.std.proofs.Common.{◌≡◌, ℕ, suc, ◌+◌, Bool, true, false, cond, eqb, ◌⊎◌, List, [], ◌∷◌, ℤ, pos, Some, None, Ok, Err, codes, Option, Result, sym, refl, ap, ◌∙◌, subst, inl, inr, arith}
+use Rattle.std.proofs.Common.{◌≡◌, ℕ, suc, ◌+◌, Bool, true, false, cond, eqb, ◌⊎◌, List, [], ◌∷◌, ℤ, pos, Some, None, Ok, Err, codes, Option, Result, sym, refl, ap, ◌∙◌, subst, inl, inr}
 use Rattle.std.proofs.lemmas.List.{append_cancel_left}
 use Rattle.numerals.proofs.Commas.{one_list}
 use Rattle.numerals.proofs.Cuts.{one_cut, never_cut}
@@ -14,9 +14,6 @@ One {X} J = (r s : X) → J r → J s → r ≡ s
 -- a sort of lines that comes to one thing on each line
 abbrev pub Sure : {X : Type 0} → (List ℕ → Bool → X → Type 0) → Type 0
 Sure J = (text : List ℕ) (ended : Bool) → One (J text ended)
-
-ok_err : {X Y : Type 0} (x : X) (e : Y) → ◌≡◌ {A = Result X Y} (Ok x) (Err e) → ⊥
-ok_err x e q = let z : ◌≡◌ {A = ℕ} 0 1 = cc in omega arith
 
 pub the_one : {X : Type 0} (W : X → Type 0) (E : ℕ → Type 0) → One W → One E → One (The W E)
 the_one W E w f r s (inl (x, h, p)) (inl (y, k, q)) = p ∙ ap Ok (w x y h k) ∙ sym q
@@ -69,8 +66,8 @@ module _ {X Y : Type 0} (J : List ℕ → Bool → Result X ℕ → Type 0) (k :
 
       by : ((e : ℕ) × J h.text h.ended (Err e) × (r ≡ Err (e, k))) ⊎ ((x : X) × J h.text h.ended (Ok x) × K x h.after r) → ((e : ℕ) × J g.text g.ended (Err e) × (s ≡ Err (e, k))) ⊎ ((x : X) × J g.text g.ended (Ok x) × K x g.after s) → r ≡ s
       by (inl (e, p, q)) (inl (d, u, v)) = let m = line (Err e) (Err d) p u in let z : e ≡ d = cc in q ∙ ap (λ (x : ℕ). Err (x, k)) z ∙ sym v
-      by (inl (e, p, q)) (inr (y, u, v)) = absurd (ok_err y e (sym (line (Err e) (Ok y) p u)))
-      by (inr (x, p, q)) (inl (d, u, v)) = absurd (ok_err x d (line (Ok x) (Err d) p u))
+      by (inl (e, p, q)) (inr (y, u, v)) = cc (line (Err e) (Ok y) p u)
+      by (inr (x, p, q)) (inl (d, u, v)) = cc (line (Ok x) (Err d) p u)
       by (inr (x, p, q)) (inr (y, u, v)) =
           let m = line (Ok x) (Ok y) p u in
           let z : x ≡ y = cc in
@@ -97,39 +94,37 @@ module _ {R : Type 0} (J : List ℕ → Bool → Result R ℕ → Type 0) (j : S
   next_same n = same_line (NextLine J n) (next_one n)
 
   -- what the lines after n readings come to, after one more of them
-  none_some : (x : R) → ◌≡◌ {A = Result (Option R) ℕ} (Ok None) (Ok (Some x)) → ⊥
-  none_some x q = let z : ◌≡◌ {A = ℕ} 0 1 = cc in omega arith
 
   pub rest_one : (n : ℕ) (rest : List ℕ) → One (Rest J n rest)
   rest_one n rest r s (refused {e = e} {text = t} {after = v} {ended = a} h p) (refused {e = d} {text = u} {after = w} {ended = b} k q) =
       let m = next_same n rest t u a b v w h k (Err e) (Err d) p q in
       let z : e ≡ d = cc in ap (λ (x : ℕ). Err (x, 5 + n)) z
   rest_one n rest r s (refused {e = e} {text = t} {after = v} {ended = a} h p) (last {text = u} {ended = b} k q) =
-      absurd (ok_err None e (sym (next_same n rest t u a b v [] h k (Err e) (Ok None) p q)))
+      cc (next_same n rest t u a b v [] h k (Err e) (Ok None) p q)
   rest_one n rest r s (refused {e = e} {text = t} {after = v} {ended = a} h p) (beyond {text = u} {after = w} {ended = b} k q m) =
-      absurd (ok_err None e (sym (next_same n rest t u a b v w h k (Err e) (Ok None) p q)))
+      cc (next_same n rest t u a b v w h k (Err e) (Ok None) p q)
   rest_one n rest r s (refused {e = e} {text = t} {after = v} {ended = a} h p) (another {text = u} {after = w} {ended = b} {x = x} k q m) =
-      absurd (ok_err (Some x) e (sym (next_same n rest t u a b v w h k (Err e) (Ok (Some x)) p q)))
+      cc (next_same n rest t u a b v w h k (Err e) (Ok (Some x)) p q)
   rest_one n rest r s (last {text = t} {ended = a} h p) (refused {e = d} {text = u} {after = w} {ended = b} k q) =
-      absurd (ok_err None d (next_same n rest t u a b [] w h k (Ok None) (Err d) p q))
+      cc (next_same n rest t u a b [] w h k (Ok None) (Err d) p q)
   rest_one n rest r s (last {text = t} {ended = a} h p) (last {text = u} {ended = b} k q) = refl
   rest_one n rest r s (last {text = t} {ended = a} h p) (beyond {text = u} {after = w} {ended = b} k q m) =
       absurd (m (sym (begins_one rest t u a b [] w h k).2))
   rest_one n rest r s (last {text = t} {ended = a} h p) (another {text = u} {after = w} {ended = b} {x = x} k q m) =
-      absurd (none_some x (next_same n rest t u a b [] w h k (Ok None) (Ok (Some x)) p q))
+      cc (next_same n rest t u a b [] w h k (Ok None) (Ok (Some x)) p q)
   rest_one n rest r s (beyond {text = t} {after = v} {ended = a} h p o) (refused {e = d} {text = u} {after = w} {ended = b} k q) =
-      absurd (ok_err None d (next_same n rest t u a b v w h k (Ok None) (Err d) p q))
+      cc (next_same n rest t u a b v w h k (Ok None) (Err d) p q)
   rest_one n rest r s (beyond {text = t} {after = v} {ended = a} h p o) (last {text = u} {ended = b} k q) =
       absurd (o (begins_one rest t u a b v [] h k).2)
   rest_one n rest r s (beyond h p o) (beyond k q m) = refl
   rest_one n rest r s (beyond {text = t} {after = v} {ended = a} h p o) (another {text = u} {after = w} {ended = b} {x = x} k q m) =
-      absurd (none_some x (next_same n rest t u a b v w h k (Ok None) (Ok (Some x)) p q))
+      cc (next_same n rest t u a b v w h k (Ok None) (Ok (Some x)) p q)
   rest_one n rest r s (another {text = t} {after = v} {ended = a} {x = x} h p o) (refused {e = d} {text = u} {after = w} {ended = b} k q) =
-      absurd (ok_err (Some x) d (next_same n rest t u a b v w h k (Ok (Some x)) (Err d) p q))
+      cc (next_same n rest t u a b v w h k (Ok (Some x)) (Err d) p q)
   rest_one n rest r s (another {text = t} {after = v} {ended = a} {x = x} h p o) (last {text = u} {ended = b} k q) =
-      absurd (none_some x (sym (next_same n rest t u a b v [] h k (Ok (Some x)) (Ok None) p q)))
+      cc (next_same n rest t u a b v [] h k (Ok (Some x)) (Ok None) p q)
   rest_one n rest r s (another {text = t} {after = v} {ended = a} {x = x} h p o) (beyond {text = u} {after = w} {ended = b} k q m) =
-      absurd (none_some x (sym (next_same n rest t u a b v w h k (Ok (Some x)) (Ok None) p q)))
+      cc (next_same n rest t u a b v w h k (Ok (Some x)) (Ok None) p q)
   rest_one n rest r s (another {text = t} {after = v} {ended = a} {x = x} {r = p'} h p o) (another {text = u} {after = w} {ended = b} {x = y} {r = q'} k q m) =
       let e = next_same n rest t u a b v w h k (Ok (Some x)) (Ok (Some y)) p q in
       let z : x ≡ y = cc in

@@ -12,8 +12,8 @@ use Rattle.leaves.specs.declared.ring.Ring.{Ring}
 use Rattle.readings.specs.Sorts.{cone_numbers, IsRing, IsCone, RingValue, ConeValue, Beacon, Directed}
 
 -- a ring's numbers are in their ranges
-ring_beacon : (r : Ring) (bx by : ℤ) → bx ≡ r.bx → by ≡ r.by → IsBeacon bx by
-ring_beacon r bx by e f = subst (λ (x : ℤ). IsBeacon x by) (sym e) (subst (λ (y : ℤ). IsBeacon r.bx y) (sym f) (r.west, r.east, r.south, r.north))
+ring_beacon : (r : Ring) (bx by : ℤ) → bx ≡ r.beacon.x → by ≡ r.beacon.y → IsBeacon bx by
+ring_beacon r bx by e f = subst (λ (x : ℤ). IsBeacon x by) (sym e) (subst (λ (y : ℤ). IsBeacon r.beacon.x y) (sym f) (r.beacon.west, r.beacon.east, r.beacon.south, r.beacon.north))
 
 ring_radii : (r : Ring) (a b : ℤ) → a ≡ pos r.inner → b ≡ pos r.outer → AreRadii a b
 ring_radii r a b e f =
@@ -34,7 +34,7 @@ module _ (bx by a b : ℤ) where
   ring_err e h = inr (none h, (code e, told h, refl))
     where
       none : RingMade bx by a b (Err e) → (p : PlaneReading) → IsRing (bx ∷ by ∷ a ∷ b ∷ []) p → ⊥
-      none (inl k) (OfRing r) q = let u : bx ≡ r.bx = cc in let v : by ≡ r.by = cc in k.0 (ring_beacon r bx by u v)
+      none (inl k) (OfRing r) q = let u : bx ≡ r.beacon.x = cc in let v : by ≡ r.beacon.y = cc in k.0 (ring_beacon r bx by u v)
       none (inr k) (OfRing r) q = let u : a ≡ pos r.inner = cc in let v : b ≡ pos r.outer = cc in k.1 (ring_radii r a b u v)
       none (inl k) (OfCone c) q = q
       none (inr k) (OfCone c) q = q
@@ -46,16 +46,16 @@ module _ (bx by a b : ℤ) where
 -- a cone's numbers are in their ranges, and open
 cone_range : (c : Cone) (bx by ux uy vx vy : ℤ) → bx ∷ by ∷ ux ∷ uy ∷ vx ∷ vy ∷ [] ≡ cone_numbers c → InRange bx by ux uy vx vy × IsOpen ux uy vx vy
 cone_range c bx by ux uy vx vy e =
-    let p : bx ≡ c.bx = cc in
-    let q : by ≡ c.by = cc in
-    let s : ux ≡ c.ux = cc in
-    let t : uy ≡ c.uy = cc in
-    let u : vx ≡ c.vx = cc in
-    let v : vy ≡ c.vy = cc in
+    let p : bx ≡ c.beacon.x = cc in
+    let q : by ≡ c.beacon.y = cc in
+    let s : ux ≡ c.u.x = cc in
+    let t : uy ≡ c.u.y = cc in
+    let u : vx ≡ c.v.x = cc in
+    let v : vy ≡ c.v.y = cc in
     rw (p, q, s, t, u, v) (
       record {
-        beacon = (c.west, c.east, c.south, c.north);
-        directions = ((c.ux_least, c.ux_most, c.uy_least, c.uy_most), (c.vx_least, c.vx_most, c.vy_least, c.vy_most));
+        beacon = (c.beacon.west, c.beacon.east, c.beacon.south, c.beacon.north);
+        directions = ((c.u.x_least, c.u.x_most, c.u.y_least, c.u.y_most), (c.v.x_least, c.v.x_most, c.v.y_least, c.v.y_most));
       },
       c.opens,
     )

@@ -1,7 +1,7 @@
 -- Each sort of lines: what is written is read, and nothing else is.
 use Rattle.std.proofs.Common.{◌≡◌, ℕ, suc, ◌≤◌, Bool, true, false, ◌⊎◌, List, [], ◌∷◌, ◌++◌, length, ℤ, pos, Ok, Err, codes, decimal, Result, sym, refl, ap, ◌∙◌, subst, inl, inr, arith, w32, SFits}
-use Rattle.std.specs.List.{AllByRecursion}
-use Rattle.std.proofs.ByRecursion.{All-append}
+use Rattle.std.specs.List.{All}
+use Rattle.std.proofs.lemmas.List.Elements.{All-append, All-from_recursion}
 use Rattle.std.proofs.lemmas.List.{length-append}
 use Rattle.dial.specs.Made.{same_arc}
 use Rattle.dial.specs.declared.arc.Arc.{Arc}
@@ -16,7 +16,7 @@ use Rattle.readings.specs.declared.kind.Kind.{Kind}
 use Rattle.readings.specs.declared.kind.Kind.TheVariants.{Plane, Dial}
 use Rattle.readings.proofs.Once.{One, Sure, the_one, numbers_one, keyed_one, else_one}
 use Rattle.readings.proofs.Same.{same_grain, same_ring, same_cone}
-use Rattle.readings.proofs.Texts.{without_end, listed_without, listed_short, small_natural, small_signed, smaller_signed}
+use Rattle.readings.proofs.Texts.{without_end, listed_without, listed_short, small_natural, small_signed, smaller_signed, natural_fits}
 
 -- A sort of lines, and the text of each thing that it may mean, where that is good.
 pub record Writes {X : Type 0} (J : List ℕ → Bool → Result X ℕ → Type 0) (Good : X → Type 0) (text : X → List ℕ) : Type 0 where
@@ -30,23 +30,20 @@ pub record Writes {X : Type 0} (J : List ℕ → Bool → Result X ℕ → Type 
 abbrev pub Any : {X : Type 0} → X → Type 0
 Any x = Unit {0}
 
-ok_err : {X Y : Type 0} (x : X) (e : Y) → ◌≡◌ {A = Result X Y} (Ok x) (Err e) → ⊥
-ok_err x e q = let z : ◌≡◌ {A = ℕ} 0 1 = cc in omega arith
-
 the_reads : {X : Type 0} (W : X → Type 0) (E : ℕ → Type 0) (x : X) → The W E (Ok x) → W x
 the_reads W E x (inl (y, h, q)) = let z : y ≡ x = cc in subst W z h
-the_reads W E x (inr (n, h)) = absurd (ok_err x h.0 h.2)
+the_reads W E x (inr (n, h)) = let q = h.2 in cc
 
 keyed_reads : {X : Type 0} (key : List ℕ) (V : List ℕ → Result X ℕ → Type 0) (t : List ℕ) (ended : Bool) (x : X) → Keyed key V t ended (Ok x) → (ended ≡ true) × ((v : List ℕ) × (t ≡ key ++ v) × V v (Ok x))
-keyed_reads key V t ended x (inl (n, q)) = absurd (ok_err x 15 q)
+keyed_reads key V t ended x (inl (n, q)) = cc
 keyed_reads key V t true x (inr (v, e, h)) = (refl, (v, e, h))
-keyed_reads key V t false x (inr (v, e, q)) = absurd (ok_err x 16 q)
+keyed_reads key V t false x (inr (v, e, q)) = cc
 
 -- a key, and numbers
 module _ {X : Type 0} (key : List ℕ) (n : ℕ) (W : List ℤ → X → Type 0) (E : List ℤ → ℕ → Type 0) (Good : X → Type 0) (nums : X → List ℤ) where
   reads_numbers : (v : List ℕ) (x : X) → ((zs : List ℤ) → W zs x → (zs ≡ nums x) × Good x) → Numbers n (λ zs. The (W zs) (E zs)) v (Ok x) → (v ≡ listed (nums x)) × Good x
   reads_numbers v x from (inl (zs, l, h)) = let k = from zs (the_reads (W zs) (E zs) x h) in (l.written ∙ ap listed k.0, k.1)
-  reads_numbers v x from (inr (none, q)) = absurd (ok_err x 16 q)
+  reads_numbers v x from (inr (none, q)) = cc
 
   pub record Numbered : Type 0 where
     pub to : (x : X) → Good x → W (nums x) x
@@ -54,7 +51,7 @@ module _ {X : Type 0} (key : List ℕ) (n : ℕ) (W : List ℤ → X → Type 0)
     pub same : (x y : X) → Good x → Good y → nums x ≡ nums y → x ≡ y
     pub told : (zs : List ℤ) → One (E zs)
     pub count : (x : X) → Good x → length (nums x) ≡ suc n
-    pub fits : (x : X) → Good x → AllByRecursion (SFits w32) (nums x)
+    pub fits : (x : X) → Good x → All (SFits w32) (nums x)
     pub free : Without 10 key
     pub small : length key ≤ 6
     pub few : n ≤ 5
@@ -75,7 +72,7 @@ module _ {X : Type 0} {key : List ℕ} {n : ℕ} {W : List ℤ → X → Type 0}
         sure = keyed_one key _ (numbers_one n _ (λ zs. the_one (W zs) (E zs) (one_of zs) (m.told zs)));
         writes = λ x g. inr (listed (nums x), refl, inl (nums x, record { count = m.count x g; fit = m.fits x g; written = refl }, inl (x, m.to x g, refl)));
         reads = numbered_reads;
-        plain = λ x g. All-append _ key (listed (nums x)) m.free (listed_without (nums x) (m.fits x g));
+        plain = λ x g. All-append (λ b. b ≡ 10 → ⊥) key (listed (nums x)) m.free (listed_without (nums x) (m.fits x g));
         short = λ x g. omega (arith, length-append key (listed (nums x)), m.small, m.few, m.count x g, listed_short (nums x) (m.fits x g));
       }
 
@@ -91,7 +88,7 @@ liars_sort =
       same = λ p q g h e. (let z : p ≡ q = cc in z);
       told = λ zs. same_refusal 16;
       count = λ q g. refl;
-      fits = λ q g. (small_natural q g, tt);
+      fits = natural_fits;
       free = without_end (codes "liars=") refl;
       small = omega arith;
       few = omega arith;
@@ -106,7 +103,7 @@ grain_sort =
       same = λ p q g h e. same_grain p q (let z : p.size ≡ q.size = cc in z);
       told = λ zs. same_refusal 2;
       count = λ q g. refl;
-      fits = λ q g. (small_natural q.size (omega (arith, q.most)), tt);
+      fits = λ q g. natural_fits q.size (omega (arith, q.most));
       free = without_end (codes "grain=") refl;
       small = omega arith;
       few = omega arith;
@@ -118,20 +115,20 @@ box_sort =
     (record {
       to = λ q g. refl;
       from = λ zs q h. (h, tt);
-      same = λ p q g h e. same_box p q ((let z : p.x0 ≡ q.x0 = cc in z), (let z : p.y0 ≡ q.y0 = cc in z), (let z : p.x1 ≡ q.x1 = cc in z), (let z : p.y1 ≡ q.y1 = cc in z));
+      same = λ p q g h e. same_box p q ((let z : p.columns.low ≡ q.columns.low = cc in z), (let z : p.rows.low ≡ q.rows.low = cc in z), (let z : p.columns.high ≡ q.columns.high = cc in z), (let z : p.rows.high ≡ q.rows.high = cc in z));
       told = λ zs. same_refusal 1;
       count = λ q g. refl;
-      fits = λ q g. (
-        small_natural q.x0 (omega (arith, q.across, q.rightmost)),
-        (small_natural q.y0 (omega (arith, q.up, q.topmost)), (small_natural q.x1 (omega (arith, q.rightmost)), (small_natural q.y1 (omega (arith, q.topmost)), tt))),
+      fits = λ q g. All-from_recursion (SFits w32) (box_numbers q) (
+        small_natural q.columns.low (omega (arith, q.columns.ordered, q.columns.most)),
+        (small_natural q.rows.low (omega (arith, q.rows.ordered, q.rows.most)), (small_natural q.columns.high (omega (arith, q.columns.most)), (small_natural q.rows.high (omega (arith, q.rows.most)), tt))),
       );
       free = without_end (codes "start=") refl;
       small = omega arith;
       few = omega arith;
     })
 
-arc_fits : (a : Arc) → AllByRecursion (SFits w32) (arc_numbers a)
-arc_fits a = (small_natural a.start (omega (arith, a.placed)), (small_natural a.len (omega (arith, a.most)), tt))
+arc_fits : (a : Arc) → All (SFits w32) (arc_numbers a)
+arc_fits a = All-from_recursion (SFits w32) (arc_numbers a) (small_natural a.start (omega (arith, a.placed)), (small_natural a.len (omega (arith, a.most)), tt))
 
 arc_same : (a b : Arc) → arc_numbers a ≡ arc_numbers b → a ≡ b
 arc_same a b e = same_arc a b (let z : a.start ≡ b.start = cc in z) (let z : a.len ≡ b.len = cc in z)
@@ -199,10 +196,10 @@ ring_count : (p : PlaneReading) → RingLike p → length (reading_numbers p) �
 ring_count (OfRing r) g = refl
 ring_count (OfCone c) g = absurd g
 
-ring_fits : (p : PlaneReading) → RingLike p → AllByRecursion (SFits w32) (reading_numbers p)
-ring_fits (OfRing r) g = (
-  small_signed r.bx r.west r.east,
-  (small_signed r.by r.south r.north, (small_natural r.inner (omega (arith, r.ordered, r.most)), (small_natural r.outer (omega (arith, r.most)), tt))),
+ring_fits : (p : PlaneReading) → RingLike p → All (SFits w32) (reading_numbers p)
+ring_fits (OfRing r) g = All-from_recursion (SFits w32) (ring_numbers r) (
+  small_signed r.beacon.x r.beacon.west r.beacon.east,
+  (small_signed r.beacon.y r.beacon.south r.beacon.north, (small_natural r.inner (omega (arith, r.ordered, r.most)), (small_natural r.outer (omega (arith, r.most)), tt))),
 )
 ring_fits (OfCone c) g = absurd g
 
@@ -245,15 +242,15 @@ cone_count : (p : PlaneReading) → ConeLike p → length (reading_numbers p) �
 cone_count (OfRing r) g = absurd g
 cone_count (OfCone c) g = refl
 
-cone_fits : (p : PlaneReading) → ConeLike p → AllByRecursion (SFits w32) (reading_numbers p)
+cone_fits : (p : PlaneReading) → ConeLike p → All (SFits w32) (reading_numbers p)
 cone_fits (OfRing r) g = absurd g
-cone_fits (OfCone c) g = (
-  small_signed c.bx c.west c.east,
+cone_fits (OfCone c) g = All-from_recursion (SFits w32) (cone_numbers c) (
+  small_signed c.beacon.x c.beacon.west c.beacon.east,
   (
-    small_signed c.by c.south c.north,
+    small_signed c.beacon.y c.beacon.south c.beacon.north,
     (
-      smaller_signed c.ux c.ux_least c.ux_most,
-      (smaller_signed c.uy c.uy_least c.uy_most, (smaller_signed c.vx c.vx_least c.vx_most, (smaller_signed c.vy c.vy_least c.vy_most, tt))),
+      smaller_signed c.u.x c.u.x_least c.u.x_most,
+      (smaller_signed c.u.y c.u.y_least c.u.y_most, (smaller_signed c.v.x c.v.x_least c.v.x_most, (smaller_signed c.v.y c.v.y_least c.v.y_most, tt))),
     ),
   ),
 )
@@ -283,7 +280,7 @@ pub other_key : {X : Type 0} (a b : ℕ) (key rest : List ℕ) (V : List ℕ →
 other_key a b key rest V ended n = inl (λ v e. n (let z : a ≡ b = cc in z), refl)
 
 plane_writes : (p : PlaneReading) → Any p → PlaneLine (plane_text p) true (Ok p)
-plane_writes (OfRing r) g = inl (ring_sort.writes (OfRing r) tt, ok_err (OfRing r) 15)
+plane_writes (OfRing r) g = inl (ring_sort.writes (OfRing r) tt, λ q. cc)
 plane_writes (OfCone c) g = inr (other_key 114 99 (codes "ing=") _ (Numbers 4 RingValue) true (λ e. omega (arith, e)), cone_sort.writes (OfCone c) tt)
 
 plane_reads : (t : List ℕ) (ended : Bool) (p : PlaneReading) → PlaneLine t ended (Ok p) → (ended ≡ true) × (t ≡ plane_text p) × Any p
@@ -307,8 +304,8 @@ plane_sort = record { sure = else_one _ _ ring_sort.sure cone_sort.sure; writes 
 one_name : (value : List ℕ) → One (λ (k : Kind). value ≡ name k)
 one_name value Plane Plane p q = refl
 one_name value Dial Dial p q = refl
-one_name value Plane Dial p q = let z : ◌≡◌ {A = ℕ} 0 1 = cc in absurd (omega arith)
-one_name value Dial Plane p q = let z : ◌≡◌ {A = ℕ} 0 1 = cc in absurd (omega arith)
+one_name value Plane Dial p q = cc
+one_name value Dial Plane p q = cc
 
 sheet_reads : (t : List ℕ) (ended : Bool) (k : Kind) → SheetLine t ended (Ok k) → (ended ≡ true) × (t ≡ codes "sheet=" ++ name k) × Any k
 sheet_reads t ended k h =

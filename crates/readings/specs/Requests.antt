@@ -2,11 +2,18 @@
 use Rattle.std.specs.Prelude.{◌≡◌, ℕ, Bool, List, take, Ok, Err, Result}
 use Rattle.domain.specs.Refusals.{code}
 use Rattle.readings.specs.Files.{Rest, before, Meant, Survey, on_plane, on_dial}
+use Rattle.domain.specs.declared.refusal.Refusal.{Refusal}
+use Rattle.readings.specs.Lines.{numbered}
 use Rattle.readings.specs.declared.fault.Fault.{Fault}
+use Rattle.readings.specs.declared.line.Line.{Line}
 use Rattle.readings.specs.declared.readings.Readings.{Readings}
 use Rattle.readings.specs.declared.request.Request.{Request}
 use Rattle.readings.specs.declared.request.Asked.{Asked}
 use Rattle.readings.specs.declared.request.Asked.TheVariants.{Plane, Dial}
+
+-- what a line in memory comes to, as a line of this sort
+abbrev pub Judges : {X : Type 0} → (List ℕ → Bool → Result X ℕ → Type 0) → Line → Result X Refusal → Type 0
+Judges J line r = J line.text.now line.ended (numbered r)
 
 -- the readings, in the order of the file
 unfoldable pub entered : {R : Type 0} → Readings R → List R

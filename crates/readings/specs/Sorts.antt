@@ -1,5 +1,6 @@
 -- The sorts of lines of a readings file.
-use Rattle.std.specs.Prelude.{◌≡◌, ℕ, ◌≤◌, min, Bool, true, false, cond, ◌⊎◌, List, [], ◌∷◌, ℤ, pos, Some, None, Ok, Err, codes, Option, Result, ◌==◌, nat_lt}
+use Rattle.std.specs.Prelude.{◌≡◌, ℕ, ◌≤◌, min, Bool, true, false, cond, ◌⊎◌, List, [], ◌∷◌, map, ℤ, pos, Some, None, Ok, Err, codes, Option, Result, ◌==◌, nat_lt}
+use Rattle.std.specs.List.{All}
 use Rattle.dial.specs.declared.arc.Arc.{Arc}
 use Rattle.plane.specs.declared.plane_box.PlaneBox.{PlaneBox}
 use Rattle.leaves.specs.Cones.{InRange}
@@ -21,16 +22,16 @@ name Dial = codes "dial"
 
 -- the numbers that a piece or a reading is written by
 abbrev pub box_numbers : PlaneBox → List ℤ
-box_numbers b = pos b.x0 ∷ pos b.y0 ∷ pos b.x1 ∷ pos b.y1 ∷ []
+box_numbers b = pos b.columns.low ∷ pos b.rows.low ∷ pos b.columns.high ∷ pos b.rows.high ∷ []
 
 abbrev pub arc_numbers : Arc → List ℤ
 arc_numbers a = pos a.start ∷ pos a.len ∷ []
 
 abbrev pub ring_numbers : Ring → List ℤ
-ring_numbers r = r.bx ∷ r.by ∷ pos r.inner ∷ pos r.outer ∷ []
+ring_numbers r = r.beacon.x ∷ r.beacon.y ∷ pos r.inner ∷ pos r.outer ∷ []
 
 abbrev pub cone_numbers : Cone → List ℤ
-cone_numbers c = c.bx ∷ c.by ∷ c.ux ∷ c.uy ∷ c.vx ∷ c.vy ∷ []
+cone_numbers c = c.beacon.x ∷ c.beacon.y ∷ c.u.x ∷ c.u.y ∷ c.v.x ∷ c.v.y ∷ []
 
 -- sheet=plane or sheet=dial
 abbrev pub SheetValue : List ℕ → Result Kind ℕ → Type 0
@@ -52,6 +53,10 @@ GrainValue zs = The (λ g. zs ≡ pos g.size ∷ []) (λ e. e ≡ 2)
 
 abbrev pub GrainLine : List ℕ → Bool → Result Grain ℕ → Type 0
 GrainLine = Keyed (codes "grain=") (Numbers 1 GrainValue)
+
+-- numbers that are not negative, each of 16 bits, refused with 1 where one is not
+abbrev pub Naturals : List ℤ → Result (List ℕ) ℕ → Type 0
+Naturals zs = The (λ ns. (zs ≡ map pos ns) × All (λ n. n ≤ 65535) ns) (λ e. e ≡ 1)
 
 -- start= with the numbers of a piece, refused with 1 where they are no piece's
 abbrev pub BoxValue : List ℕ → Result PlaneBox ℕ → Type 0

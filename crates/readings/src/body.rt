@@ -1,27 +1,24 @@
 // The lines from the start on, for either kind of sheet.
-ghost use Rattle.std.specs.Prelude.{◌≡◌, ◌+◌, ◌<◌, ◌≤◌, codes};
+ghost use Rattle.std.specs.Prelude.{◌≡◌};
 ghost use Rattle.readings.specs.Files.{Body, Rest};
-ghost use Rattle.readings.specs.Lines.{Keyed, Numbers, numbered};
-ghost use Rattle.readings.specs.Requests.{answer, entered, meant, Further};
+ghost use Rattle.readings.specs.Lines.{Numbers, numbered};
+ghost use Rattle.readings.specs.Requests.{Judges, answer, entered, meant, Further};
 ghost use Rattle.readings.specs.Sorts.{EndValue, EndLine, NextLine, StartLine, entering};
 
-use crate::entries::has_other_key;
 use crate::entry::Entry;
-use crate::fault::Fault;
+use crate::fault::{Fault, on_line};
 use crate::line::Line;
 use crate::lines::first_line;
 use crate::readings::Readings;
 use crate::request::Request;
 use domain::refusal::Refusal;
-use numerals::values::one_number;
+use numerals::values::numbers;
 use sheet::grain::Grain;
 
 fn end_value<R>(value: &[u8], count: u16) -> Result<Option<R>, Refusal>
     ensures { Numbers 1 (EndValue count) value.now (numbered result) }
 {
-    let Some(number) = one_number(value) else {
-        return Err(Refusal::Malformed);
-    };
+    let [number] = numbers::<1>(value).ok_or(Refusal::Malformed)?;
     if number != i32::from(count) {
         return Err(Refusal::CountDiffers);
     }
@@ -29,7 +26,7 @@ fn end_value<R>(value: &[u8], count: u16) -> Result<Option<R>, Refusal>
 }
 
 fn end_line<R>(line: Line<'_>, count: u16) -> Result<Option<R>, Refusal>
-    ensures { EndLine count line.entry.text.now line.entry.ended (numbered result) }
+    ensures { Judges (EndLine count) line.entry result }
 {
     if count == 0 {
         return Err(Refusal::KeyNotDue);
@@ -37,41 +34,38 @@ fn end_line<R>(line: Line<'_>, count: u16) -> Result<Option<R>, Refusal>
     end_value(line.value(b"end=")?, count)
 }
 
-// What a reading comes to after `count` others.
+// What a reading comes to after `count` others: a seventeenth keeps the refusals below that of a full draft, and its key's.
 fn enter<R: Copy>(judged: Result<R, Refusal>, count: u16) -> Result<Option<R>, Refusal>
     ensures { numbered result ≡ entering count (numbered judged) }
 {
+    if count < 16 {
+        return judged.map(Some);
+    }
     match judged {
-        Ok(reading) => {
-            if count < 16 {
-                Ok(Some(reading))
-            } else {
-                Err(Refusal::DraftFull)
-            }
-        }
-        Err(refusal) => {
-            if count < 16 || refusal.code() < 6 || refusal.code() == 15 {
-                Err(refusal)
-            } else {
-                Err(Refusal::DraftFull)
-            }
-        }
+        Err(
+            refusal @ (Refusal::NotAPiece
+            | Refusal::BadGrain
+            | Refusal::OutOfRange
+            | Refusal::BadRadii
+            | Refusal::BadCone
+            | Refusal::KeyNotDue),
+        ) => Err(refusal),
+        _ => Err(Refusal::DraftFull),
     }
 }
 
 // The line after `count` readings: another reading, or the end.
 fn next_line<R: Entry>(line: Line<'_>, count: u16) -> Result<Option<R>, Refusal>
-    ensures { NextLine R.Entry.readings count line.entry.text.now line.entry.ended (numbered result) }
+    ensures { Judges (NextLine R.Entry.readings count) line.entry result }
 {
-    let judged = R::reading(line);
-    if has_other_key(&judged) {
-        return end_line(line, count);
+    match R::reading(line) {
+        Err(Refusal::KeyNotDue) => end_line(line, count),
+        judged => enter(judged, count),
     }
-    enter(judged, count)
 }
 
 fn start_line<R: Entry>(line: Line<'_>) -> Result<R::Start, Refusal>
-    ensures { StartLine R.Entry.starts line.entry.text.now line.entry.ended (numbered result) }
+    ensures { Judges (StartLine R.Entry.starts) line.entry result }
 {
     R::start(line.value(b"start=")?)
 }
@@ -85,25 +79,16 @@ fn more_readings<R: Entry>(first: R, rest: &[u8]) -> Result<Readings<R>, Fault>
     loop {
         let count = readings.len as u16;
         let (line, after) = first_line(left);
-        let next = match next_line(line, count) {
-            Ok(next) => next,
-            Err(refusal) => {
+        match on_line(5 + u32::from(count), next_line(line, count))? {
+            Some(reading) => readings.add(reading),
+            None if after.is_empty() => return Ok(readings),
+            None => {
                 return Err(Fault {
-                    refusal,
-                    line: 5 + u32::from(count),
+                    refusal: Refusal::KeyNotDue,
+                    line: 6 + u32::from(count),
                 });
             }
-        };
-        let Some(reading) = next else {
-            if after.is_empty() {
-                return Ok(readings);
-            }
-            return Err(Fault {
-                refusal: Refusal::KeyNotDue,
-                line: 6 + u32::from(count),
-            });
-        };
-        readings.add(reading);
+        }
         left = after;
     }
 }
@@ -113,10 +98,8 @@ fn read_readings<R: Entry>(rest: &[u8]) -> Result<Readings<R>, Fault>
     ensures { Rest R.Entry.readings 0 rest.now (answer entered result) }
 {
     let (line, after) = first_line(rest);
-    match R::reading(line) {
-        Ok(first) => more_readings(first, after),
-        Err(refusal) => Err(Fault { refusal, line: 5 }),
-    }
+    let first = on_line(5, R::reading(line))?;
+    more_readings(first, after)
 }
 
 // What the lines from line 4 on ask for.
@@ -128,10 +111,7 @@ pub(crate) fn read_body<R: Entry>(
     ensures { Body R.Entry.starts R.Entry.readings liars grain rest.now (answer meant result) }
 {
     let (line, after) = first_line(rest);
-    let start = match start_line::<R>(line) {
-        Ok(start) => start,
-        Err(refusal) => return Err(Fault { refusal, line: 4 }),
-    };
+    let start = on_line(4, start_line::<R>(line))?;
     let readings = read_readings::<R>(after)?;
     if usize::from(liars) >= readings.len {
         return Err(Fault {

@@ -1,6 +1,7 @@
 // The readings of the plane, rings and cones, and those of the dial, arcs.
-ghost use Rattle.std.specs.Prelude.{◌≡◌, [], ◌∷◌, Err, codes, Decides};
+ghost use Rattle.std.specs.Prelude.{codes};
 ghost use Rattle.readings.specs.Lines.{Keyed, Numbers, numbered};
+ghost use Rattle.readings.specs.Requests.{Judges};
 ghost use Rattle.readings.specs.Sorts.{BoxValue, ArcValue, BearingValue, RingValue, ConeValue, PlaneLine, DialLine};
 
 use crate::entry::Entry;
@@ -13,24 +14,14 @@ use leaves::arc::ArcReading;
 use leaves::plane_reading::PlaneReading;
 use plane::plane_box::PlaneBox;
 
-// Whether a line was refused for its key.
-pub(crate) fn has_other_key<X>(judged: &Result<X, Refusal>) -> bool
-    ensures { Decides result (numbered judged.now ≡ Err 15) }
-{
-    match judged {
-        Ok(_) => false,
-        Err(refusal) => refusal.code() == 15,
-    }
-}
-
 fn ring_line(line: Line<'_>) -> Result<PlaneReading, Refusal>
-    ensures { Keyed (codes "ring=") (Numbers 4 RingValue) line.entry.text.now line.entry.ended (numbered result) }
+    ensures { Judges (Keyed (codes "ring=") (Numbers 4 RingValue)) line.entry result }
 {
     ring_value(line.value(b"ring=")?)
 }
 
 fn cone_line(line: Line<'_>) -> Result<PlaneReading, Refusal>
-    ensures { Keyed (codes "cone=") (Numbers 6 ConeValue) line.entry.text.now line.entry.ended (numbered result) }
+    ensures { Judges (Keyed (codes "cone=") (Numbers 6 ConeValue)) line.entry result }
 {
     cone_value(line.value(b"cone=")?)
 }
@@ -47,21 +38,19 @@ impl Entry for PlaneReading {
     }
 
     fn reading(line: Line<'_>) -> Result<PlaneReading, Refusal> {
-        let ring = ring_line(line);
-        if has_other_key(&ring) {
-            return cone_line(line);
+        match ring_line(line) {
+            Err(Refusal::KeyNotDue) => cone_line(line),
+            ring => ring,
         }
-        ring
     }
 }
 
 fn bearing_value(value: &[u8]) -> Result<ArcReading, Refusal>
     ensures { BearingValue value.now (numbered result) }
 {
-    match arc_value(value) {
-        Ok(arc) => Ok(ArcReading { arc }),
-        Err(refusal) => Err(refusal),
-    }
+    Ok(ArcReading {
+        arc: arc_value(value)?,
+    })
 }
 
 impl Entry for ArcReading {

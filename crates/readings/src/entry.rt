@@ -1,6 +1,7 @@
 // The readings of one kind of sheet, as a file has them: by what lines they are written, and by what value a start.
 ghost use Rattle.std.specs.Prelude.{ℕ, Bool, List, Result as Outcome};
 ghost use Rattle.readings.specs.Lines.{numbered};
+ghost use Rattle.readings.specs.Requests.{Judges};
 
 use crate::line::Line;
 use domain::refusal::Refusal;
@@ -17,5 +18,5 @@ pub(crate) trait Entry: Copy {
         ensures { starts value.now (numbered result) };
 
     fn reading(line: Line<'_>) -> Result<Self, Refusal>
-        ensures { readings line.entry.text.now line.entry.ended (numbered result) };
+        ensures { Judges readings line.entry result };
 }

@@ -28,9 +28,7 @@ impl<'a> Line<'a> {
     pub(crate) fn value(self, key: &[u8]) -> Result<&'a [u8], Refusal>
         ensures { MatchResult result (λ v. (self.entry.text.now ≡ key.now ++ v.now) × (self.entry.ended ≡ true)) (λ e. (((v : List ℕ) → self.entry.text.now ≢ key.now ++ v) × (code e ≡ 15)) ⊎ ((v : List ℕ) × (self.entry.text.now ≡ key.now ++ v) × (self.entry.ended ≡ false) × (code e ≡ 16))) }
     {
-        let Some(value) = self.text.strip_prefix(key) else {
-            return Err(Refusal::KeyNotDue);
-        };
+        let value = self.text.strip_prefix(key).ok_or(Refusal::KeyNotDue)?;
         if !self.ended {
             return Err(Refusal::Malformed);
         }

@@ -1,12 +1,18 @@
 // Numbers that are not negative.
-ghost use Rattle.std.specs.Prelude.{◌≡◌, ℕ, ◌≤◌, pos, MatchOption, ◌≢◌};
+ghost use Rattle.std.specs.Prelude.{◌^◌, ◌<◌};
+ghost use Rattle.readings.specs.Lines.{Numbers, numbered};
+ghost use Rattle.readings.specs.Sorts.{Naturals};
 
-// The number as one of 16 bits, if it is one.
-pub(crate) fn natural(number: i32) -> Option<u16>
-    ensures { MatchOption result ((n : ℕ) → n ≤ 65535 → number ≢ pos n) (λ n. number ≡ pos n) }
+use domain::refusal::Refusal;
+use numerals::values::numbers;
+
+// The N numbers of a value, as numbers of 16 bits. Refused with 16 for what is not N numbers, with 1 where one of them
+// is not from 0 to 65535. So many have to fit in memory.
+pub(crate) fn naturals<const N: usize>(value: &[u8]) -> Result<[u16; N], Refusal>
+    requires { N < 2 ^ 32 }
+    ensures { Numbers N Naturals value.now (numbered result) }
 {
-    if number < 0 || number > 65535 {
-        return None;
-    }
-    Some(number as u16)
+    numbers::<N>(value).ok_or(Refusal::Malformed)?.try_map(|number| u16::try_from(number).map_err(
+        |_| Refusal::NotAPiece,
+    ))
 }

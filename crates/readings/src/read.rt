@@ -3,7 +3,7 @@ ghost use Rattle.readings.specs.Files.{Bodies, Comes, Exact, Lines};
 ghost use Rattle.readings.specs.Requests.{answer, asked};
 
 use crate::body::read_body;
-use crate::fault::Fault;
+use crate::fault::{Fault, on_line};
 use crate::headers::{grain_line, liars_line, sheet_line};
 use crate::kind::Kind;
 use crate::lines::first_line;
@@ -14,6 +14,7 @@ use leaves::plane_reading::PlaneReading;
 use sheet::grain::Grain;
 
 // The lines from the start on, as the sheet's kind has them.
+// Liars, grain and rest come together here and in `read_body` alone: a struct of them would be one name more.
 fn read_kind(kind: Kind, liars: u16, grain: Grain, rest: &[u8]) -> Result<Asked, Fault>
     ensures { Bodies kind liars grain rest.now (answer asked result) }
 {
@@ -27,20 +28,11 @@ fn read_lines(file: &[u8]) -> Result<Asked, Fault>
     ensures { Lines file.now (answer asked result) }
 {
     let (line, rest) = first_line(file);
-    let kind = match sheet_line(line) {
-        Ok(kind) => kind,
-        Err(refusal) => return Err(Fault { refusal, line: 1 }),
-    };
+    let kind = on_line(1, sheet_line(line))?;
     let (line, rest) = first_line(rest);
-    let liars = match liars_line(line) {
-        Ok(liars) => liars,
-        Err(refusal) => return Err(Fault { refusal, line: 2 }),
-    };
+    let liars = on_line(2, liars_line(line))?;
     let (line, rest) = first_line(rest);
-    let grain = match grain_line(line) {
-        Ok(grain) => grain,
-        Err(refusal) => return Err(Fault { refusal, line: 3 }),
-    };
+    let grain = on_line(3, grain_line(line))?;
     read_kind(kind, liars, grain, rest)
 }
 

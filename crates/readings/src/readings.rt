@@ -1,4 +1,4 @@
-// From one to sixteen readings.
+// From one to sixteen readings. An array and a length: what a request holds lies in fixed memory.
 ghost use Rattle.std.specs.Prelude.{◌≡◌, ◌≤◌, length};
 
 #[derive(Drop)]

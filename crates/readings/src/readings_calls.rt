@@ -4,6 +4,7 @@ ghost use Rattle.readings.specs.Requests.{entered};
 
 use crate::readings::Readings;
 
+#[tactic(auto, using(std::proofs::lemmas::List::take_more_set), unfolding(crate::specs::Requests::entered))]
 impl<R: Copy> Readings<R> {
     pub(crate) fn of(first: R) -> Readings<R>
         ensures { (entered result ≡ first ∷ []) × (result.len ≡ 1) }
@@ -26,7 +27,6 @@ impl<R: Copy> Readings<R> {
     pub fn all(&self) -> &[R]
         ensures { result.now ≡ entered self.now }
     {
-        let items = &self.items[..];
-        &items[..self.len]
+        &self.items[..self.len]
     }
 }

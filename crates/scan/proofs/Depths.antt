@@ -1,15 +1,13 @@
 -- Depth over a list of stretches, member by member; and that its first and last index are ends of stretches.
-use Rattle.std.proofs.Common.{◌≡◌, ℕ, zero, suc, ◌+◌, ◌-◌, ◌<◌, ◌≤◌, min, max, Bool, true, false, cond, ◌⊎◌, List, [], ◌∷◌, ◌++◌, map, length, get_or, take, Some, None, Option, unwrap_or, sym, refl, ap, ◌∙◌, subst, inl, inr, arith}
-use Rattle.std.specs.List.{AllByRecursion}
-use Rattle.std.proofs.lemmas.List.{map_more, take_all}
-use Rattle.std.proofs.lemmas.List.Sums.{sum_by_push, sum_by-cons}
+use Rattle.std.proofs.Common.{◌≡◌, ℕ, zero, suc, ◌+◌, ◌-◌, ◌<◌, ◌≤◌, min, max, Bool, true, false, cond, ◌⊎◌, List, [], ◌∷◌, map, filter, Some, None, Option, MatchOption, sym, refl, subst, inl, inr, arith}
+use Rattle.std.specs.List.{AllByRecursion, fold, reduce}
+use Rattle.std.proofs.lemmas.List.Sums.{sum_by-cons}
 use Rattle.std.proofs.lemmas.Bool.{leb-true, le-leb, cases_eq, cases_lt, both_ways}
 use Rattle.std.proofs.lemmas.Bool.Decides.{nat_tests}
 use Rattle.scan.specs.Live.{run}
 use Rattle.scan.proofs.Runs.{run_unique}
 use Rattle.scan.specs.declared.stretch.Stretch.{Stretch}
 use Rattle.scan.specs.Depth.{covers, depth, deep, Below, Earliest, Latest}
-use Rattle.std.proofs.ByRecursion.{All-push, All-weaker}
 
 -- a stretch that does not begin at an index holds the one before too, and so on
 not_begun : (s : Stretch) (i : ℕ) → (s.low ≡ suc i → ⊥) → cond (covers s (suc i)) 1 0 ≤ cond (covers s i) 1 0
@@ -24,64 +22,55 @@ not_ended s i n = grind (arith, nat_tests)
 past_end : (s : Stretch) (i : ℕ) → s.high < i → cond (covers s i) 1 0 ≤ 0
 past_end s i h = grind (arith, nat_tests)
 
--- one member more
-pub depth_more : (f : ℕ → Stretch) (ns : List ℕ) (i k : ℕ) → i < length ns → depth (map f (take (i + 1) ns)) k ≡ depth (map f (take i ns)) k + cond (covers (f (get_or ns i 0)) k) 1 0
-depth_more f ns i k h =
-    ap (λ ss. depth ss k) (map_more f ns i 0 h) ∙ sum_by_push (λ s. cond (covers s k) 1 0) (map f (take i ns)) (f (get_or ns i 0))
+-- the best of the numbers of a list that pass a test, where R says that one is as good as another
+module _ (t : ℕ → Bool) (better : ℕ → ℕ → ℕ) (R : ℕ → ℕ → Type 0) (first : (m e : ℕ) → R (better m e) m) (second : (m e : ℕ) → R (better m e) e) (itself : (m : ℕ) → R m m) (on : (k m e : ℕ) → R k m → R m e → R k e) (one : (P : ℕ → Type 0) (m e : ℕ) → P m → P e → P (better m e)) where
+  -- m is one that passes, and as good as any of them that does
+  abbrev Best : ℕ → List ℕ → Type 0
+  Best m es = (t m ≡ true) × AllByRecursion (λ i. t i ≡ true → R m i) es
 
--- the same, as a loop over the members learns it: s is the member's stretch, and t the test's answer
-module _ (f : ℕ → Stretch) (ns : List ℕ) (i k : ℕ) (s : Stretch) (t : Bool) (h : i < length ns) (e : s ≡ f (get_or ns i 0)) (a : t ≡ covers s k) where
-  counted : depth (map f (take (i + 1) ns)) k ≡ depth (map f (take i ns)) k + cond t 1 0
-  counted = rw (a, e) (depth_more f ns i k h)
+  -- what a fold over those that pass makes of m
+  abbrev Folded : ℕ → ℕ → List ℕ → Type 0
+  Folded r m es = R r m × Best r es
 
-  pub depth_yes : t ≡ true → depth (map f (take (i + 1) ns)) k ≡ depth (map f (take i ns)) k + 1
-  depth_yes y = counted ∙ ap (λ b. depth (map f (take i ns)) k + cond b 1 0) y
+  folded_one : (es : List ℕ) (m e : ℕ) (b : Bool) → t e ≡ b → t m ≡ true → ((k : ℕ) → t k ≡ true → Folded (fold better k (filter t es)) k es) → Folded (fold better m (cond b (e ∷ filter t es) (filter t es))) m (e ∷ es)
+  folded_one es m e true z y f =
+      let r = f (better m e) (one (λ k. t k ≡ true) m e y z) in
+      let k = fold better (better m e) (filter t es) in
+      (on k (better m e) m r.0 (first m e), (r.1.0, (λ _. on k (better m e) e r.0 (second m e), r.1.1)))
+  folded_one es m e false z y f = let r = f m y in (r.0, (r.1.0, (λ u. absurd (both_ways (t e) z u), r.1.1)))
 
-  pub depth_no : t ≡ false → depth (map f (take (i + 1) ns)) k ≡ depth (map f (take i ns)) k
-  depth_no y = omega (arith, counted ∙ ap (λ b. depth (map f (take i ns)) k + cond b 1 0) y)
+  folded : (es : List ℕ) (m : ℕ) → t m ≡ true → Folded (fold better m (filter t es)) m es
+  folded [] m y = (itself m, (y, tt))
+  folded (e ∷ es) m y = folded_one es m e (t e) refl y (folded es)
 
-pub depth_all : (f : ℕ → Stretch) (ns : List ℕ) (i k : ℕ) → length ns ≤ i → depth (map f (take i ns)) k ≡ depth (map f ns) k
-depth_all f ns i k h = ap (λ ms. depth (map f ms) k) (take_all i ns h)
+  abbrev Found : List ℕ → Option ℕ → Type 0
+  Found es r = MatchOption r (AllByRecursion (λ i. t i ≡ false) es) (λ m. Best m es)
 
--- a relation to the values so far, one more and all of them
-pub values_more : (R : List ℕ → Type 0) (f : ℕ → ℕ) (ns : List ℕ) (i e : ℕ) → i < length ns → e ≡ f (get_or ns i 0) → R (map f (take i ns) ++ e ∷ []) → R (map f (take (i + 1) ns))
-values_more R f ns i e h q r = subst R (ap (λ x. map f (take i ns) ++ x ∷ []) q ∙ sym (map_more f ns i 0 h)) r
+  found_later : (e : ℕ) (es : List ℕ) (r : Option ℕ) → t e ≡ false → Found es r → Found (e ∷ es) r
+  found_later e es None z f = (z, f)
+  found_later e es (Some m) z f = (f.0, (λ u. absurd (both_ways (t e) z u), f.1))
 
-pub values_all : (R : List ℕ → Type 0) (f : ℕ → ℕ) (ns : List ℕ) (i : ℕ) → length ns ≤ i → R (map f (take i ns)) → R (map f ns)
-values_all R f ns i h r = subst R (ap (map f) (take_all i ns h)) r
+  found_one : (e : ℕ) (es : List ℕ) (b : Bool) → t e ≡ b → Found es (reduce better (filter t es)) → Found (e ∷ es) (reduce better (cond b (e ∷ filter t es) (filter t es)))
+  found_one e es true z f = let r = folded es e z in (r.1.0, (λ _. r.0, r.1.1))
+  found_one e es false z f = found_later e es (reduce better (filter t es)) z f
 
--- the loops that look for the smallest and the largest end
-module _ (t : ℕ → Bool) (es : List ℕ) (e : ℕ) where
-  never : (m : ℕ) → t m ≡ false → t m ≡ true → ⊥
-  never m n y = both_ways (t m) n y
+  best_found : (es : List ℕ) → Found es (reduce better (filter t es))
+  best_found [] = tt
+  best_found (e ∷ es) = found_one e es (t e) refl (best_found es)
 
-  smaller : (m : ℕ) → t m ≡ true → AllByRecursion (λ i. t i ≡ true → m ≤ i) es → t e ≡ true → Earliest t (es ++ e ∷ []) (Some (min m e))
-  smaller m y a z = (
-    elim (cases_lt m e) [ inl h ↦ subst (λ (k : ℕ). t k ≡ true) (omega arith) y | inr h ↦ subst (λ (k : ℕ). t k ≡ true) (omega arith) z ],
-    All-push (λ i. t i ≡ true → min m e ≤ i) es e (All-weaker (λ i. t i ≡ true → m ≤ i) (λ i. t i ≡ true → min m e ≤ i) (λ i h u. omega (arith, h u)) es a) (λ u. omega arith),
-  )
+either_min : (P : ℕ → Type 0) (m e : ℕ) → P m → P e → P (min m e)
+either_min P m e f g = elim (cases_lt m e) [ inl h ↦ subst P (omega arith) f | inr h ↦ subst P (omega arith) g ]
 
-  pub earliest_yes : (b : Option ℕ) → Earliest t es b → t e ≡ true → Earliest t (es ++ e ∷ []) (Some (min (unwrap_or b e) e))
-  earliest_yes None f y = smaller e y (All-weaker (λ i. t i ≡ false) (λ i. t i ≡ true → e ≤ i) (λ i h u. absurd (never i h u)) es f) y
-  earliest_yes (Some m) f y = smaller m f.0 f.1 y
+either_max : (P : ℕ → Type 0) (m e : ℕ) → P m → P e → P (max m e)
+either_max P m e f g = elim (cases_lt m e) [ inl h ↦ subst P (omega arith) g | inr h ↦ subst P (omega arith) f ]
 
-  pub earliest_no : (b : Option ℕ) → Earliest t es b → t e ≡ false → Earliest t (es ++ e ∷ []) b
-  earliest_no None f y = All-push (λ i. t i ≡ false) es e f y
-  earliest_no (Some m) f y = (f.0, All-push (λ i. t i ≡ true → m ≤ i) es e f.1 (λ u. absurd (never e y u)))
+pub earliest_found : (t : ℕ → Bool) (es : List ℕ) (r : Option ℕ) → r ≡ reduce min (filter t es) → Earliest t es r
+earliest_found t es r e =
+    subst (Earliest t es) (sym e) (best_found t min (λ m i. m ≤ i) (λ m e. omega arith) (λ m e. omega arith) (λ m. omega arith) (λ k m e f g. omega arith) either_min es)
 
-  greater : (m : ℕ) → t m ≡ true → AllByRecursion (λ i. t i ≡ true → i ≤ m) es → t e ≡ true → Latest t (es ++ e ∷ []) (Some (max m e))
-  greater m y a z = (
-    elim (cases_lt m e) [ inl h ↦ subst (λ (k : ℕ). t k ≡ true) (omega arith) z | inr h ↦ subst (λ (k : ℕ). t k ≡ true) (omega arith) y ],
-    All-push (λ i. t i ≡ true → i ≤ max m e) es e (All-weaker (λ i. t i ≡ true → i ≤ m) (λ i. t i ≡ true → i ≤ max m e) (λ i h u. omega (arith, h u)) es a) (λ u. omega arith),
-  )
-
-  pub latest_yes : (b : Option ℕ) → Latest t es b → t e ≡ true → Latest t (es ++ e ∷ []) (Some (max (unwrap_or b e) e))
-  latest_yes None f y = greater e y (All-weaker (λ i. t i ≡ false) (λ i. t i ≡ true → i ≤ e) (λ i h u. absurd (never i h u)) es f) y
-  latest_yes (Some m) f y = greater m f.0 f.1 y
-
-  pub latest_no : (b : Option ℕ) → Latest t es b → t e ≡ false → Latest t (es ++ e ∷ []) b
-  latest_no None f y = All-push (λ i. t i ≡ false) es e f y
-  latest_no (Some m) f y = (f.0, All-push (λ i. t i ≡ true → i ≤ m) es e f.1 (λ u. absurd (never e y u)))
+pub latest_found : (t : ℕ → Bool) (es : List ℕ) (r : Option ℕ) → r ≡ reduce max (filter t es) → Latest t es r
+latest_found t es r e =
+    subst (Latest t es) (sym e) (best_found t max (λ m i. i ≤ m) (λ m e. omega arith) (λ m e. omega arith) (λ m. omega arith) (λ k m e f g. omega arith) either_max es)
 
 -- past all ends there is no depth
 past_ends : (ss : List Stretch) (i b : ℕ) → Below b ss → b ≤ i → depth ss i ≡ 0

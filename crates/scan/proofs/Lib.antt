@@ -1,3 +1,4 @@
+pub mod Backward
 pub mod Counting
 pub mod Depths
 pub mod Logs

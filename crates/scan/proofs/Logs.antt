@@ -1,5 +1,5 @@
 -- What the least power of two is.
-use Rattle.std.proofs.Common.{◌≡◌, ℕ, zero, suc, ◌+◌, ◌^◌, ◌<◌, ◌≤◌, leb, Some, None, Option, unwrap_or, refl, subst, inl, inr, arith}
+use Rattle.std.proofs.Common.{◌≡◌, ℕ, zero, suc, ◌+◌, ◌^◌, ◌<◌, ◌≤◌, leb, Some, None, Option, unwrap_or, MatchOption, refl, subst, inl, inr, arith}
 use native.Mathlib.Nat.{pow-succ'}
 use Rattle.std.proofs.lemmas.Bool.{leb-true, leb-false, cases_lt}
 use Rattle.scan.specs.Live.{First, first_live}
@@ -38,10 +38,14 @@ log_up_half m n l s h = go (log_up n) refl
     go zero q = absurd (omega (arith, subst (λ (e : ℕ). n ≤ 2 ^ e) q (log_up_enough n h)))
     go (suc e) q = omega (arith, q, log_up_least m e (omega arith) (omega (arith, subst (λ (k : ℕ). n ≤ 2 ^ k) q (log_up_enough n h), pow-succ' 2 e)))
 
--- what a search upward finds
-pub log_up_found : (n e : ℕ) → n ≤ 2 ^ 32 → n ≤ 2 ^ e → ((i : ℕ) → i < e → 2 ^ i < n) → e ≡ log_up n
-log_up_found n e h u d =
+log_up_is : (n e : ℕ) → n ≤ 2 ^ 32 → n ≤ 2 ^ e → ((i : ℕ) → i < e → 2 ^ i < n) → e ≡ log_up n
+log_up_is n e h u d =
     elim (cases_lt (log_up n) e) [
       | inl l ↦ absurd (omega (arith, d (log_up n) l, log_up_enough n h))
       | inr l ↦ omega (arith, log_up_least n e h u)
     ]
+
+-- what a search upward finds
+pub log_up_found : (n : ℕ) (r : Option ℕ) → n < 2 ^ 32 → MatchOption r ((i : ℕ) → 0 ≤ i → i < 32 → i < 32 → 2 ^ i < n) (λ e. (0 ≤ e) × (e < 32) × (e < 32 → n ≤ 2 ^ e) × ((i : ℕ) → 0 ≤ i → i < e → i < 32 → 2 ^ i < n)) → unwrap_or r 32 ≡ log_up n
+log_up_found n None h d = log_up_is n 32 (omega arith) (omega arith) (λ i l. d i (omega arith) l l)
+log_up_found n (Some e) h f = log_up_is n e (omega arith) (f.2 f.1) (λ i l. f.3 i (omega arith) l (omega (arith, f.1)))

@@ -24,7 +24,7 @@ module _ (p : ℕ → Bool) where
   first_is zero a b s = λ i low high. absurd (omega arith)
   first_is (suc w) a b s = first_step a b (first_live p (suc a) w) (p a) (omega arith) refl (first_is w (suc a) b (omega arith))
 
-  last_step : (a m b : ℕ) (r : Option ℕ) (t : Bool) → a ≤ m → b ≡ suc m → p m ≡ t → Last p a m r → Last p a b (elim t [ true ↦ Some m | false ↦ r ])
+  pub last_step : (a m b : ℕ) (r : Option ℕ) (t : Bool) → a ≤ m → b ≡ suc m → p m ≡ t → Last p a m r → Last p a b (elim t [ true ↦ Some m | false ↦ r ])
   last_step a m b r true h s e f = (h, omega arith, e, λ i low high. absurd (omega arith))
   last_step a m b None false h s e f = dead_end a m b s e f
   last_step a m b (Some i) false h s e f = (f.0, omega (arith, f.1), f.2, dead_end (suc i) m b s e f.3)

@@ -1,13 +1,13 @@
 // The run of the indices that at least k of a list of stretches hold, found at the stretches' own ends.
-ghost use Rattle.std.specs.Prelude.{◌≡◌, ℕ, ◌<◌, min, max, map};
+ghost use Rattle.std.specs.Prelude.{◌≡◌, ℕ, ◌<◌, map};
 ghost use Rattle.scan.specs.Depth.{covers, depth, deep, Below, Earliest, Latest};
 ghost use Rattle.scan.specs.Live.{run};
-ghost use Rattle.std.specs.Option.{unwrap_or};
 ghost use Rattle.scan.specs.declared.stretch.Stretch.{Stretch as Stretches};
 
 use crate::stretch::Stretch;
 
 // One side of a list of members, each known by a number: the stretch that a member takes up there.
+// It is a trait, and no closure: a public function that calls a closure has a `requires`, and here none has one.
 pub trait Side {
     ghost extent: { Self → ℕ → Stretches };
 
@@ -26,53 +26,33 @@ pub fn covers_index(stretch: Stretch, index: u32) -> bool
 pub fn depth_at<S: Side>(side: &S, members: &[u64], index: u32) -> usize
     ensures { result ≡ depth (map (S.Side.extent side.now) members.now) index }
 {
-    let mut count = 0;
-    for member in members {
-        if covers_index(side.stretch(*member), index) {
-            count += 1;
-        }
-    }
-    count
+    members
+        .iter()
+        .filter(|&&member| covers_index(side.stretch(member), index))
+        .count()
 }
 
 // The smallest beginning of a member that at least `least` members hold.
 fn first_deep<S: Side>(side: &S, members: &[u64], least: usize) -> Option<u32>
     ensures { Earliest (deep least (map (S.Side.extent side.now) members.now)) (map (λ n. (S.Side.extent side.now n).low) members.now) result }
 {
-    let mut best = None;
-    for member in members {
-        let edge = side.stretch(*member).low;
-        if depth_at(side, members, edge) >= least {
-            best = Some(earlier(best, edge));
-        }
-    }
-    best
+    members
+        .iter()
+        .map(|&member| side.stretch(member).low)
+        .filter(|&edge| depth_at(side, members, edge) >= least)
+        .min()
 }
 
-// The largest end of a member that at least `least` members hold.
+// The largest end of a member that at least `least` members hold. Two functions, since a chain of each is shorter than
+// one function of two closures, for the end and for the better of two.
 fn last_deep<S: Side>(side: &S, members: &[u64], least: usize) -> Option<u32>
     ensures { Latest (deep least (map (S.Side.extent side.now) members.now)) (map (λ n. (S.Side.extent side.now n).high) members.now) result }
 {
-    let mut best = None;
-    for member in members {
-        let edge = side.stretch(*member).high;
-        if depth_at(side, members, edge) >= least {
-            best = Some(later(best, edge));
-        }
-    }
-    best
-}
-
-fn earlier(best: Option<u32>, edge: u32) -> u32
-    ensures { result ≡ min (unwrap_or best edge) edge }
-{
-    best.unwrap_or(edge).min(edge)
-}
-
-fn later(best: Option<u32>, edge: u32) -> u32
-    ensures { result ≡ max (unwrap_or best edge) edge }
-{
-    best.unwrap_or(edge).max(edge)
+    members
+        .iter()
+        .map(|&member| side.stretch(member).high)
+        .filter(|&edge| depth_at(side, members, edge) >= least)
+        .max()
 }
 
 // From the first to the last index that at least `least` members hold. Both are ends of members, so
@@ -80,11 +60,7 @@ fn later(best: Option<u32>, edge: u32) -> u32
 pub fn deep_run<S: Side>(side: &S, members: &[u64], least: usize) -> Option<Stretch>
     ensures { (b : ℕ) → 0 < least → Below b (map (S.Side.extent side.now) members.now) → result ≡ run (deep least (map (S.Side.extent side.now) members.now)) 0 b }
 {
-    let Some(low) = first_deep(side, members, least) else {
-        return None;
-    };
-    let Some(high) = last_deep(side, members, least) else {
-        return None;
-    };
+    let low = first_deep(side, members, least)?;
+    let high = last_deep(side, members, least)?;
     Some(Stretch { low, high })
 }

@@ -4,7 +4,7 @@ ghost use Rattle.scan.specs.Live.{First, Last, run};
 
 use crate::stretch::Stretch;
 
-// A test of indices.
+// A test of indices. It is a trait, and no closure: a public function that calls a closure has a `requires`, and here none has one.
 pub trait Live {
     ghost live: { Self → ℕ → Bool };
 
@@ -16,35 +16,21 @@ pub trait Live {
 pub fn first_live<L: Live>(test: &L, from: u32, to: u32) -> Option<u32>
     ensures { First (L.Live.live test.now) from to result }
 {
-    for i in from..to {
-        if test.is_live(i) {
-            return Some(i);
-        }
-    }
-    None
+    (from..to).find(|&index| test.is_live(index))
 }
 
 // The last live index from `from` up to, and not with, `to`.
 pub fn last_live<L: Live>(test: &L, from: u32, to: u32) -> Option<u32>
     ensures { Last (L.Live.live test.now) from to result }
 {
-    for i in (from..to).rev() {
-        if test.is_live(i) {
-            return Some(i);
-        }
-    }
-    None
+    (from..to).rev().find(|&index| test.is_live(index))
 }
 
 // From the first to the last live index, found from both ends inward.
 pub fn live_run<L: Live>(test: &L, from: u32, to: u32) -> Option<Stretch>
     ensures { result ≡ run (L.Live.live test.now) from (to - from) }
 {
-    let Some(low) = first_live(test, from, to) else {
-        return None;
-    };
-    let Some(high) = last_live(test, low, to) else {
-        return None;
-    };
+    let low = first_live(test, from, to)?;
+    let high = last_live(test, low, to)?;
     Some(Stretch { low, high })
 }

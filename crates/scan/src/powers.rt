@@ -6,10 +6,5 @@ ghost use Rattle.scan.specs.Powers.{log_up};
 pub fn log_up(side: u32) -> u32
     ensures { result ≡ log_up side }
 {
-    for e in 0..32 {
-        if side <= 1 << e {
-            return e;
-        }
-    }
-    32
+    (0..32).find(|&e| side <= 1 << e).unwrap_or(32)
 }

@@ -1,13 +1,24 @@
 -- What a cut comes to is what the definition of a step says.
-use Rattle.std.proofs.Common.{◌≡◌, ◌<◌, ◌≤◌, Bool, true, false, leb, [], ◌∷◌, ◌++◌, Some, Option, sym, ap, ◌∙◌, ap₂}
+use Rattle.std.proofs.Common.{◌≡◌, ℕ, ◌<◌, ◌≤◌, Bool, true, false, leb, [], ◌∷◌, ◌++◌, Some, Ok, Err, Option, Result, sym, refl, ap, ◌∙◌, subst, ap₂}
 use Rattle.std.specs.Option.{option_to_list}
+use Rattle.std.specs.Result.{IsOk}
 use Rattle.std.proofs.lemmas.Bool.{eq-eqb, ne_eqb, le-leb, lt-leb}
 use Rattle.domain.specs.Maps.{listed}
+use Rattle.domain.specs.Refusals.{Given}
+use Rattle.domain.specs.declared.refusal.Refusal.{Refusal}
 use Rattle.paving.specs.Sheet.{Task}
 use Rattle.paving.specs.Steps.{entries, without, left_undecided, put_back, entries_at, back_at}
 use Rattle.paving.specs.declared.classes.Class.TheVariants.{Inside, Outside, Undecided}
 use Rattle.sheet.specs.Cuts.{cut_back, CutOf}
 use Rattle.sheet.specs.declared.cut.Cut.{Cut}
+
+-- a call that is to give a value gives one, and it is as told
+pub given_ok : {X : Type 0} (P : Type 0) (V : X → Type 0) (n : ℕ) (r : Result X Refusal) → Given r n P V → P → IsOk r
+given_ok P V n (Ok x) g p = refl
+given_ok P V n (Err e) g p = absurd (g.0 p)
+
+pub given_value : {X : Type 0} (P : Type 0) (V : X → Type 0) (n : ℕ) (r : Result X Refusal) (x : X) → r ≡ Ok x → Given r n P V → V x
+given_value P V n r x e g = (subst (λ q. Given q n P V) e g).1
 
 module _ {P : Type 0} (t : Task P) where
   pub cut_made : (x p : P) (o : Option P) (c : Cut P) → t.shed p ≡ o → listed c.outside ≡ t.maps.strips x p → listed c.inside ≡ without t p o → option_to_list c.undecided ≡ left_undecided t o → cut_back c ≡ put_back t o → CutOf c (entries_at t x (Some p)) (back_at t (Some p))

@@ -1,7 +1,7 @@
 -- A pile is the front of an array, turned round.
-use Rattle.std.proofs.Common.{◌≡◌, ℕ, ◌+◌, ◌-◌, ◌<◌, List, [], ◌∷◌, reverse, length, get_or, take, set, refl, ap, ◌∙◌, arith}
+use Rattle.std.proofs.Common.{◌≡◌, ℕ, ◌+◌, ◌-◌, ◌<◌, List, [], ◌∷◌, reverse, length, get_or, take, set, ap, ◌∙◌, arith}
 use Rattle.std.proofs.lemmas.List.{take_more, take_more_set, reverse-append, length-reverse, length-take-le}
-use Rattle.sheet.specs.Piles.{lowest, waiting}
+use Rattle.sheet.specs.Piles.{waiting}
 use Rattle.sheet.specs.declared.pile.Pile.{Pile}
 
 module _ {X : Type 0} (xs : List X) (n : ℕ) where
@@ -22,12 +22,3 @@ reverse_pop (x ∷ xs) n p h = (get_or (x ∷ xs) (n - 1) x, reverse_top (x ∷ 
 pub waiting_length : {P : Type 0} (p : Pile P) → length (waiting p) ≡ p.len
 unfolding waiting
 waiting_length p = length-reverse (take p.len p.items) ∙ length-take-le p.len p.items (omega arith)
-
--- all of a pile, and none
-pub lowest_all : {P : Type 0} (p : Pile P) → lowest p.len p ≡ waiting p
-unfolding lowest waiting
-lowest_all p = refl
-
-pub lowest_none : {P : Type 0} (p : Pile P) → lowest 0 p ≡ []
-unfolding lowest
-lowest_none p = refl

@@ -1,7 +1,8 @@
 -- A roll is an array from a place on, and round again.
 use Rattle.std.proofs.Common.{◌≡◌, ℕ, suc, ◌+◌, ◌-◌, ◌<◌, ◌≤◌, ltb, List, [], ◌∷◌, ◌++◌, length, get_or, take, drop, set, sym, ap, ◌∙◌, ap₂, inl, inr, arith}
 use lib.Seq.{take-set-lt}
-use Rattle.std.proofs.lemmas.List.{append_assoc, append-nil, length-append, length-take-le, length-drop, take_all, take-append-le, take_more, take_more_set, take-set-le, drop_more, drop_all, drop-set-lt, drop-set-add, set-append_left, set-append_right, get_or_append_left, get_or-append_right, get_or-take, get_or-drop}
+use Rattle.std.proofs.Math.Seq.{take-append-add}
+use Rattle.std.proofs.lemmas.List.{append_assoc, append-nil, length-append, length-take-le, length-drop, take_all, take-append-le, take-take, take_more, take_more_set, take-set-le, drop_more, drop_all, drop-set-lt, drop-set-add, set-append_left, set-append_right}
 use Rattle.std.proofs.lemmas.Bool.{cases_lt, lt-ltb, le-ltb, cond-true, cond-false}
 use Rattle.sheet.specs.Rolls.{from, place, rolled}
 use Rattle.sheet.specs.declared.roll.Roll.{Roll}
@@ -16,17 +17,6 @@ place_round f n h = cond-false (ltb (f + n) 1024) (f + n) (f + n - 1024) (le-ltb
 module _ {X : Type 0} (xs : List X) (f : ℕ) (whole : length xs ≡ 1024) (begins : f < 1024) where
   pub from_length : length (from f xs) ≡ 1024
   from_length = omega (arith, length-append (drop f xs) (take f xs), length-drop f xs, length-take-le f xs (omega arith))
-
-  -- what lies n after the first
-  pub from_at : (n : ℕ) (d : X) → n < 1024 → get_or (from f xs) n d ≡ get_or xs (place f n) d
-  from_at n d h =
-      elim (cases_lt (f + n) 1024) [
-        | inl on ↦ get_or_append_left (drop f xs) (take f xs) d n (omega (arith, length-drop f xs)) ∙ get_or-drop f xs n d ∙ ap (λ (k : ℕ). get_or xs k d) (sym (place_on f n on))
-        | inr round ↦
-            get_or-append_right (drop f xs) (take f xs) (1024 - f) n d (omega (arith, length-drop f xs)) (omega arith)
-            ∙ get_or-take f xs (n - (1024 - f)) d (omega arith)
-            ∙ ap (λ (k : ℕ). get_or xs k d) (let e : n - (1024 - f) ≡ place f n = omega (arith, place_round f n round) in e)
-      ]
 
   -- a write n after the first
   pub from_set : (n : ℕ) (y : X) → n < 1024 → from f (set xs (place f n) y) ≡ set (from f xs) n y
@@ -70,6 +60,16 @@ module _ {X : Type 0} (xs : List X) (f : ℕ) (whole : length xs ≡ 1024) (begi
       let few : n - 1 ≤ length rest = omega (arith, length-append (drop (f + 1) xs) (take f xs), length-drop (f + 1) xs, length-take-le f xs (omega arith)) in
       ap (take n) (from_next d) ∙ ap (λ (k : ℕ). take k (get_or xs f d ∷ rest)) (let e : n ≡ suc (n - 1) = omega arith in e)
       ∙ ap (λ ys. get_or xs f d ∷ ys) (sym (ap (take (n - 1)) (from_place d) ∙ take-append-le (n - 1) rest (get_or xs f d ∷ []) few))
+
+  -- the first so many from a place on: within the ring, and past its end
+  pub from_on : (n : ℕ) → f + n ≤ 1024 → take n (drop f xs) ≡ take n (from f xs)
+  from_on n h = sym (take-append-le n (drop f xs) (take f xs) (omega (arith, length-drop f xs)))
+
+  pub from_round : (n : ℕ) → 1024 ≤ f + n → n ≤ 1024 → drop f xs ++ take (f + n - 1024) xs ≡ take n (from f xs)
+  from_round n h k =
+      sym (ap (λ (i : ℕ). take i (from f xs)) (let e : n ≡ length (drop f xs) + (f + n - 1024) = omega (arith, length-drop f xs) in e)
+      ∙ take-append-add (drop f xs) (take f xs) (f + n - 1024)
+      ∙ ap (λ ys. drop f xs ++ ys) (take-take (f + n - 1024) f xs (omega arith)))
 
 pub rolled_length : {P : Type 0} (r : Roll P) → length (rolled r) ≡ r.len
 unfolding rolled

@@ -1,10 +1,6 @@
 -- The pieces on a pile.
-use Rattle.std.specs.Prelude.{◌≡◌, ℕ, List, [], ◌∷◌, ◌++◌, reverse, take, Option, MatchOption}
+use Rattle.std.specs.Prelude.{◌≡◌, List, [], ◌∷◌, ◌++◌, reverse, take, Option, MatchOption}
 use Rattle.sheet.specs.declared.pile.Pile.{Pile}
-
--- the lowest n, the upper one first
-unfoldable pub lowest : {P : Type 0} → ℕ → Pile P → List P
-lowest n p = reverse (take n p.items)
 
 -- the next one first
 unfoldable pub waiting : {P : Type 0} → Pile P → List P

@@ -1,5 +1,5 @@
 -- What the calls of a store do.
-use Rattle.std.specs.Prelude.{◌≡◌, ℕ, ◌+◌, ◌-◌, ◌<◌, ◌≤◌, List, ◌++◌, length, Result, MatchResult}
+use Rattle.std.specs.Prelude.{◌≡◌, ℕ, ◌+◌, ◌-◌, ◌^◌, ◌<◌, ◌≤◌, List, ◌++◌, length, Result, MatchResult}
 use Rattle.domain.specs.declared.refusal.Refusal.{Refusal}
 use Rattle.domain.specs.declared.refusal.Refusal.TheVariants.{RollFull}
 use Rattle.sheet.specs.Cuts.{cut_entries, cut_back}
@@ -16,6 +16,11 @@ pub record Noted {P : Type 0} (s : Store P) (es : List (Entry P)) (u : Store P) 
   pub pile : u.pile ≡ s.pile
   pub taken : u.taken ≡ s.taken
   pub steps : u.steps ≡ s.steps
+
+-- the roll has places for so many records more, and there are labels for them
+pub record Room {P : Type 0} (s : Store P) (n : ℕ) : Type 0 where
+  pub places : s.roll.len + n ≤ 1024
+  pub labels : s.next_label + n < 2 ^ 32
 
 -- the pile has places for two pieces more, and the counters for a step more
 pub record Slack {P : Type 0} (s : Store P) : Type 0 where
@@ -35,4 +40,4 @@ pub record Moved {P : Type 0} (s : Store P) (c : Cut P) (u : Store P) : Type 0 w
 abbrev pub Recorded : {P : Type 0} → Store P → Cut P → Result ℕ Refusal → Store P → Type 0
 Recorded s c r u =
     MatchResult r (λ n. (n ≡ length (cut_entries c)) × (n ≤ 1024 - s.roll.len) × Moved s c u)
-    (λ e. (e ≡ RollFull) × (Slack s → 1024 - s.roll.len < length (cut_entries c)) × (u ≡ s))
+    (λ e. (e ≡ RollFull) × (1024 - s.roll.len < length (cut_entries c)) × (u ≡ s))

@@ -1,7 +1,7 @@
 // What a step makes of the piece that it takes: pieces to be recorded, and pieces that go back on the pile.
 use domain::strip_slots::Strips;
 
-#[derive(Drop)]
+#[derive(Clone, Copy)]
 pub struct Cut<P> {
     pub outside: Strips<P>,
     pub inside: Strips<P>,

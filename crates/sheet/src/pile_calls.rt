@@ -1,6 +1,6 @@
 // What is done with the pieces that wait.
-ghost use Rattle.std.specs.Prelude.{◌≡◌, ◌+◌, ◌<◌, Bool, List, [], ◌∷◌, length, MatchOption};
-ghost use Rattle.sheet.specs.Piles.{lowest, waiting, Top, Popped};
+ghost use Rattle.std.specs.Prelude.{◌≡◌, ◌+◌, ◌<◌, Bool, List, [], ◌∷◌, length, reverse, MatchOption};
+ghost use Rattle.sheet.specs.Piles.{waiting, Top, Popped};
 
 use crate::pile::Pile;
 
@@ -25,12 +25,11 @@ impl<P: Copy> Pile<P> {
         Some(self.items[self.len - 1])
     }
 
-    // The piece above the lowest `below`.
-    pub(crate) fn at(&self, below: usize) -> P
-        requires { below < self.now.len }
-        ensures { lowest (below + 1) self.now ≡ result ∷ lowest below self.now }
+    // The pieces that wait, the next one last.
+    pub(crate) fn pieces(&self) -> &[P]
+        ensures { reverse result.now ≡ waiting self.now }
     {
-        self.items[below]
+        &self.items[..self.len]
     }
 
     pub(crate) fn pop(&mut self)

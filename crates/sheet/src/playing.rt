@@ -2,7 +2,8 @@
 ghost use Rattle.std.specs.Prelude.{◌≡◌};
 ghost use Rattle.paving.specs.declared.answers.Answer.TheVariants.{Tallied};
 ghost use Rattle.paving.specs.declared.turns.Turn.TheVariants.{Tally as TallyTurn};
-ghost use Rattle.sheet.specs.Standing.{means, Turned};
+ghost use Rattle.contractor.specs.Means.{means};
+ghost use Rattle.sheet.specs.Standing.{Turned};
 
 use crate::sheet::Sheet;
 use contractor::contractor::Contractor;
@@ -11,9 +12,9 @@ use paving::tallies::Tally;
 use paving::turns::Turn;
 
 impl<C: Contractor> Sheet<C> {
-    // The call that a turn names.
+    // The call that a turn names. A `match` for each refusal: `map_or_else(Answer::Refused, ..)` gets no proof yet.
     pub fn turn(&mut self, turn: Turn) -> Answer<C::Piece>
-        ensures { Turned C.Piece.Domain.maps (means C.Contractor.set C.Contractor.kept C.Contractor.dropped) turn self.old result self.new }
+        ensures { Turned C.Piece.Domain.maps (means C.Contractor) turn self.old result self.new }
     {
         match turn {
             Turn::Step => match self.step() {
@@ -37,7 +38,7 @@ impl<C: Contractor> Sheet<C> {
 impl<C: Contractor + Drop> Sheet<C> {
     // Ends the sheet, and gives its tally.
     pub fn close(self) -> Tally
-        ensures { Turned C.Piece.Domain.maps (means C.Contractor.set C.Contractor.kept C.Contractor.dropped) TallyTurn self (Tallied result) self }
+        ensures { Turned C.Piece.Domain.maps (means C.Contractor) TallyTurn self (Tallied result) self }
     {
         let tally = self.tally();
         let Sheet {

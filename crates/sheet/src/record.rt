@@ -1,42 +1,22 @@
 // A step's write to the store.
-ghost use Rattle.std.specs.Prelude.{◌≡◌, ◌+◌, ◌-◌, ◌^◌, ◌<◌, ◌≤◌, ◌++◌, length, Decides, MatchResult};
+ghost use Rattle.std.specs.Prelude.{◌≡◌, ◌<◌, ◌≤◌, ◌++◌, length};
 ghost use Rattle.std.specs.Option.{option_to_list};
-ghost use Rattle.domain.specs.Maps.{listed};
-ghost use Rattle.domain.specs.declared.refusal.Refusal.TheVariants.{RollFull};
 ghost use Rattle.sheet.specs.Cuts.{cut_entries};
-ghost use Rattle.paving.specs.Steps.{entries};
-ghost use Rattle.paving.specs.declared.classes.Class.TheVariants.{Inside, Outside, Undecided};
 ghost use Rattle.sheet.specs.Piles.{waiting, Exchanged};
-ghost use Rattle.sheet.specs.Stores.{Noted, Recorded, Slack};
+ghost use Rattle.sheet.specs.Stores.{Noted, Room, Recorded, Slack};
 
 use crate::cut::Cut;
 use crate::pile::Pile;
 use crate::store::Store;
 use domain::refusal::Refusal;
-use domain::strip_slots::Strips;
 use paving::classes::Class;
 
-fn many<P>(piece: &Option<P>) -> u32
-    ensures { result ≡ length (option_to_list piece.now) }
-{
-    match piece {
-        Some(_) => 1,
-        None => 0,
-    }
-}
-
-fn many_strips<P>(strips: &Strips<P>) -> u32
-    ensures { (result ≡ length (listed strips.now)) × (result ≤ 4) }
-{
-    many(&strips.first) + many(&strips.second) + many(&strips.third) + many(&strips.fourth)
-}
-
-impl<P> Cut<P> {
+impl<P: Copy> Cut<P> {
     // How many records it comes to.
-    pub(crate) fn records(&self) -> u32
+    pub(crate) fn records(&self) -> usize
         ensures { (result ≡ length (cut_entries self.now)) × (result ≤ 9) }
     {
-        many_strips(&self.outside) + many_strips(&self.inside) + many(&self.undecided)
+        self.outside.count() + self.inside.count() + usize::from(self.undecided.is_some())
     }
 }
 
@@ -62,53 +42,31 @@ impl<P: Copy> Pile<P> {
 }
 
 impl<P: Copy> Store<P> {
-    // Whether the pile has places for two pieces more, and the counters for a step more. No sheet that opening and
-    // turns make is refused here: see `slack-stands`.
-    fn has_slack(&self) -> bool
-        ensures { Decides result (Slack self.now) }
-    {
-        if self.pile.len > 38 {
-            return false;
-        }
-        if self.steps == u32::MAX {
-            return false;
-        }
-        self.next_label < u32::MAX - 9
-    }
-
     // The records of a cut piece.
-    fn note_cut(&mut self, outside: Strips<P>, inside: Strips<P>, undecided: Option<P>)
-        requires { (self.old.roll.len + (length (listed outside) + length (listed inside) + length (option_to_list undecided)) ≤ 1024) × (self.old.next_label + (length (listed outside) + length (listed inside) + length (option_to_list undecided)) < 2 ^ 32) }
-        ensures { Noted self.old (entries Outside (listed outside) ++ (entries Inside (listed inside) ++ entries Undecided (option_to_list undecided))) self.new }
+    fn note_cut(&mut self, cut: &Cut<P>)
+        requires { Room self.old (length (cut_entries cut.now)) }
+        ensures { Noted self.old (cut_entries cut.now) self.new }
     {
-        self.note_strips(Class::Outside, outside);
-        self.note_strips(Class::Inside, inside);
-        self.note_some(Class::Undecided, undecided);
+        self.note_strips(Class::Outside, cut.outside);
+        self.note_strips(Class::Inside, cut.inside);
+        if let Some(piece) = cut.undecided {
+            self.note(Class::Undecided, piece);
+        }
     }
 
     // The top piece leaves the pile, and what it was cut into goes to the roll and back on the pile.
     // Refused with 12, and nothing is changed, where the records exceed the roll's free places.
     pub(crate) fn record(&mut self, cut: Cut<P>) -> Result<u32, Refusal>
-        requires { 0 < self.old.pile.len }
+        requires { (0 < self.old.pile.len) × Slack self.old }
         ensures { Recorded self.old cut result self.new }
     {
         let records = cut.records();
-        if !self.has_slack() {
+        if 1024 - self.roll.len < records {
             return Err(Refusal::RollFull);
         }
-        if 1024 - (self.roll.len as u32) < records {
-            return Err(Refusal::RollFull);
-        }
-        let Cut {
-            outside,
-            inside,
-            undecided,
-            next,
-            later,
-        } = cut;
-        self.note_cut(outside, inside, undecided);
-        self.pile.exchange(next, later);
+        self.note_cut(&cut);
+        self.pile.exchange(cut.next, cut.later);
         self.steps += 1;
-        Ok(records)
+        Ok(records as u32)
     }
 }

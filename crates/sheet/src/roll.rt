@@ -3,6 +3,7 @@ ghost use Rattle.std.specs.Prelude.{◌≡◌, ◌<◌, ◌≤◌, length};
 
 use paving::records::Record;
 
+// An array, a place and a length, since a sheet takes no memory but its own.
 #[derive(Drop)]
 pub struct Roll<P> {
     pub(crate) items: [Record<P>; 1024],

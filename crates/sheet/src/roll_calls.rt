@@ -11,8 +11,7 @@ pub(crate) fn place_after(first: usize, many: usize) -> usize
     requires { (first < 1024) × (many < 1024) }
     ensures { (result ≡ place first many) × (result < 1024) }
 {
-    let at = first + many;
-    if at < 1024 { at } else { at - 1024 }
+    (first + many) % 1024
 }
 
 impl<P: Copy> Roll<P> {
@@ -32,12 +31,16 @@ impl<P: Copy> Roll<P> {
         }
     }
 
-    // The record that is so many after the oldest.
-    pub(crate) fn at(&self, many: usize) -> Record<P>
-        requires { many < self.now.len }
-        ensures { (d : Record P) → slice_index_or (rolled self.now) many d ≡ result }
+    // The records, the oldest first: those up to the end of the ring, and those that went round.
+    pub(crate) fn as_slices(&self) -> (&[Record<P>], &[Record<P>])
+        ensures { result.0.now ++ result.1.now ≡ rolled self.now }
     {
-        self.items[place_after(self.first, many)]
+        let ring = &self.items[..];
+        let end = self.first + self.len;
+        if end <= 1024 {
+            return (&ring[self.first..end], &[]);
+        }
+        (&ring[self.first..], &ring[..end - 1024])
     }
 
     // One record more, the newest.

@@ -1,7 +1,8 @@
 // Steps in a row.
 ghost use Rattle.paving.specs.declared.answers.Answer.TheVariants.{Ran as RanFor};
 ghost use Rattle.paving.specs.declared.turns.Turn.TheVariants.{Run};
-ghost use Rattle.sheet.specs.Standing.{means, Turned};
+ghost use Rattle.contractor.specs.Means.{means};
+ghost use Rattle.sheet.specs.Standing.{Turned};
 
 use crate::sheet::Sheet;
 use contractor::contractor::Contractor;
@@ -10,22 +11,18 @@ use paving::answers::Ran;
 impl<C: Contractor> Sheet<C> {
     // Steps until `most` are accepted, or one is refused. Never refused itself.
     pub fn run(&mut self, most: u32) -> Ran
-        ensures { Turned C.Piece.Domain.maps (means C.Contractor.set C.Contractor.kept C.Contractor.dropped) (Run most) self.old (RanFor result) self.new }
+        ensures { Turned C.Piece.Domain.maps (means C.Contractor) (Run most) self.old (RanFor result) self.new }
     {
-        let mut accepted = 0;
-        while accepted < most {
-            match self.step() {
-                Ok(_) => accepted += 1,
-                Err(refusal) => {
-                    return Ran {
-                        accepted,
-                        refusal: Some(refusal),
-                    };
-                }
+        for accepted in 0..most {
+            if let Err(refusal) = self.step() {
+                return Ran {
+                    accepted,
+                    refusal: Some(refusal),
+                };
             }
         }
         Ran {
-            accepted,
+            accepted: most,
             refusal: None,
         }
     }

@@ -1,9 +1,10 @@
 // Opening a sheet, and its steps.
 ghost use Rattle.std.specs.Prelude.{◌≡◌, []};
 ghost use Rattle.paving.specs.declared.turns.Turn.TheVariants.{Step as StepTurn};
-ghost use Rattle.sheet.specs.Standing.{means, StandsAfter, Turned, step_answer};
+ghost use Rattle.contractor.specs.Means.{means};
+ghost use Rattle.sheet.specs.Standing.{StandsAfter, Turned, step_answer};
 
-use crate::cutting::cut_away;
+use crate::cut::Cut;
 use crate::grain::Grain;
 use crate::pile::Pile;
 use crate::roll::Roll;
@@ -17,7 +18,7 @@ impl<C: Contractor> Sheet<C> {
     // The start waits, and nothing else is there.
     pub fn open(contractor: C, start: C::Piece, grain: Grain) -> Sheet<C>
         ensures value { (result.contractor ≡ contractor) × ((result.start ≡ start) × (result.grain ≡ grain)) }
-        ensures stands { StandsAfter C.Piece.Domain.maps (means C.Contractor.set C.Contractor.kept C.Contractor.dropped) [] result }
+        ensures stands { StandsAfter C.Piece.Domain.maps (means C.Contractor) [] result }
     {
         Sheet {
             contractor,
@@ -26,11 +27,7 @@ impl<C: Contractor> Sheet<C> {
             store: Store {
                 pile: Pile::of(start),
                 roll: Roll::empty(start),
-                taken: Points {
-                    inside: 0,
-                    outside: 0,
-                    undecided: 0,
-                },
+                taken: Points::default(),
                 steps: 0,
                 next_label: 0,
             },
@@ -40,13 +37,13 @@ impl<C: Contractor> Sheet<C> {
     // How many records it made. Refused with 11 where nothing waits, with 12 where its records exceed the roll's free
     // places; a refused step changes nothing.
     pub fn step(&mut self) -> Result<u32, Refusal>
-        ensures { Turned C.Piece.Domain.maps (means C.Contractor.set C.Contractor.kept C.Contractor.dropped) StepTurn self.old (step_answer result) self.new }
+        ensures { Turned C.Piece.Domain.maps (means C.Contractor) StepTurn self.old (step_answer result) self.new }
     {
         let Some(piece) = self.store.pile.top() else {
             return Err(Refusal::NothingWaiting);
         };
         let Some(kept) = self.contractor.keep(&piece) else {
-            return self.store.record(cut_away(piece));
+            return self.store.record(Cut::away(piece));
         };
         let cut = self.cut(&piece, &kept);
         self.store.record(cut)

@@ -1,9 +1,8 @@
 // What the turns do with a store.
-ghost use Rattle.std.specs.Prelude.{◌≡◌, ◌+◌, ◌^◌, ◌<◌, ◌≤◌, [], ◌∷◌, length};
-ghost use Rattle.std.specs.Option.{option_to_list};
+ghost use Rattle.std.specs.Prelude.{[], ◌∷◌, length};
 ghost use Rattle.domain.specs.Maps.{listed};
 ghost use Rattle.paving.specs.Steps.{entries};
-ghost use Rattle.sheet.specs.Stores.{Noted};
+ghost use Rattle.sheet.specs.Stores.{Noted, Room};
 
 use crate::store::Store;
 use domain::strip_slots::Strips;
@@ -13,7 +12,7 @@ use paving::records::Record;
 impl<P: Copy> Store<P> {
     // One record more, with the next label.
     pub(crate) fn note(&mut self, class: Class, piece: P)
-        requires { (self.old.roll.len < 1024) × (self.old.next_label + 1 < 2 ^ 32) }
+        requires { Room self.old 1 }
         ensures { Noted self.old (entries class (piece ∷ [])) self.new }
     {
         self.roll.note(Record {
@@ -24,30 +23,13 @@ impl<P: Copy> Store<P> {
         self.next_label += 1;
     }
 
-    // One record more, if there is a piece.
-    pub(crate) fn note_some(&mut self, class: Class, piece: Option<P>)
-        requires { (self.old.roll.len + length (option_to_list piece) ≤ 1024) × (self.old.next_label + length (option_to_list piece) < 2 ^ 32) }
-        ensures { Noted self.old (entries class (option_to_list piece)) self.new }
-    {
-        if let Some(piece) = piece {
-            self.note(class, piece);
-        }
-    }
-
     // One record more for each strip.
     pub(crate) fn note_strips(&mut self, class: Class, strips: Strips<P>)
-        requires { (self.old.roll.len + length (listed strips) ≤ 1024) × (self.old.next_label + length (listed strips) < 2 ^ 32) }
+        requires { Room self.old (length (listed strips)) }
         ensures { Noted self.old (entries class (listed strips)) self.new }
     {
-        let Strips {
-            first,
-            second,
-            third,
-            fourth,
-        } = strips;
-        self.note_some(class, first);
-        self.note_some(class, second);
-        self.note_some(class, third);
-        self.note_some(class, fourth);
+        for strip in strips {
+            self.note(class, strip);
+        }
     }
 }

@@ -1,8 +1,10 @@
 // Taking records.
-ghost use Rattle.std.specs.Prelude.{◌≡◌};
+ghost use Rattle.std.specs.Prelude.{◌≡◌, ◌+◌, ◌^◌, ◌<◌};
+ghost use Rattle.paving.specs.Laws.{points_at};
 ghost use Rattle.paving.specs.declared.turns.Turn.TheVariants.{Take as TakeTurn};
 ghost use Rattle.sheet.specs.Counts.{plus};
-ghost use Rattle.sheet.specs.Standing.{means, Turned, take_answer};
+ghost use Rattle.contractor.specs.Means.{means};
+ghost use Rattle.sheet.specs.Standing.{Turned, take_answer};
 
 use crate::sheet::Sheet;
 use contractor::contractor::Contractor;
@@ -12,21 +14,22 @@ use paving::classes::Class;
 use paving::records::Record;
 use paving::tallies::Points;
 
-// Points more of one class. No sheet that opening and turns make comes near the largest number: see `plus-fits`.
+// Points more of one class.
 pub(crate) fn add_points(points: &mut Points, class: Class, count: u64)
+    requires { points_at points.old class + count < 2 ^ 64 }
     ensures { points.new ≡ plus points.old class count }
 {
     match class {
-        Class::Inside => points.inside = points.inside.saturating_add(count),
-        Class::Outside => points.outside = points.outside.saturating_add(count),
-        Class::Undecided => points.undecided = points.undecided.saturating_add(count),
+        Class::Inside => points.inside += count,
+        Class::Outside => points.outside += count,
+        Class::Undecided => points.undecided += count,
     }
 }
 
 impl<C: Contractor> Sheet<C> {
     // The oldest record on the roll, which leaves it. Refused with 13 where the roll is empty, and then nothing changes.
     pub fn take(&mut self) -> Result<Record<C::Piece>, Refusal>
-        ensures { Turned C.Piece.Domain.maps (means C.Contractor.set C.Contractor.kept C.Contractor.dropped) TakeTurn self.old (take_answer result) self.new }
+        ensures { Turned C.Piece.Domain.maps (means C.Contractor) TakeTurn self.old (take_answer result) self.new }
     {
         let Some(record) = self.store.roll.take() else {
             return Err(Refusal::RollEmpty);

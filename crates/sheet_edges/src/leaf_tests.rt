@@ -11,17 +11,11 @@ use std::test::Fail;
 
 // The number of what is answered; 0 for nothing.
 fn number_of<P: Domain>(answer: Option<P>) -> u64 {
-    match answer {
-        Some(piece) => piece.number(),
-        None => 0,
-    }
+    answer.map_or(0, |piece| piece.number())
 }
 
 fn code_of<T: Drop>(answer: Result<T, Refusal>) -> u8 {
-    match answer {
-        Ok(_) => 0,
-        Err(refusal) => refusal.code(),
-    }
+    answer.err().map_or(0, |refusal| refusal.code())
 }
 
 #[test]
@@ -84,12 +78,8 @@ fn a_cone_from_afar(rt: HostRuntime) -> Result<(), Fail> {
 
 #[test]
 fn arcs_of_one_and_all(rt: HostRuntime) -> Result<(), Fail> {
-    let one = ArcReading {
-        arc: Arc::new(0, 1)?,
-    };
-    let all = ArcReading {
-        arc: Arc::new(7, 3600)?,
-    };
+    let one = ArcReading::from(Arc::new(0, 1)?);
+    let all = ArcReading::from(Arc::new(7, 3600)?);
     let across = Arc::new(3590, 20)?;
     assert_eq!(rt; number_of(one.keep(&across)), Arc::new(0, 1)?.number());
     assert_eq!(rt; number_of(one.shed(&across)), across.number());

@@ -18,22 +18,20 @@ fn cells(grain: u32) -> Result<Sheet<Ring>, Refusal> {
 
 // The number that find answers, or 100 and the refusal's.
 fn found<C: Contractor>(sheet: &Sheet<C>, point: u32) -> u8 {
-    match sheet.find(point) {
-        Ok(place) => place.code(),
-        Err(refusal) => refusal.code().saturating_add(100),
-    }
+    sheet.find(point).map_or_else(
+        |refusal| refusal.code().saturating_add(100),
+        |place| place.code(),
+    )
 }
 
 // Takes all that is on the roll.
 fn take_all<C: Contractor>(sheet: &mut Sheet<C>) -> u32 {
-    let mut taken: u32 = 0;
-    for _ in 0..1024 {
+    for taken in 0..1024 {
         if sheet.take().is_err() {
             return taken;
         }
-        taken = taken.saturating_add(1);
     }
-    taken
+    1024
 }
 
 #[test]

@@ -1,8 +1,8 @@
 -- Readings entered one after another.
-use Rattle.std.proofs.Common.{◌≡◌, ℕ, ◌+◌, ◌<◌, ◌≤◌, List, [], ◌∷◌, ◌++◌, length, get_or, take, sym, ap, ◌∙◌, inl, inr, arith}
+use Rattle.std.proofs.Common.{◌≡◌, ℕ, ◌+◌, ◌<◌, ◌≤◌, List, [], ◌∷◌, ◌++◌, length, get_or, take, sym, ap, ◌∙◌, inl, inr, Ok, Err, Result, arith}
 use Rattle.std.proofs.lemmas.List.{length-take, length-drop, length_push, take_more, take_all}
 use Rattle.domain.specs.declared.refusal.Refusal.{Refusal}
-use Rattle.panels.specs.Drafts.{Taken, NotTaken}
+use Rattle.panels.specs.Drafts.{Entered, Taken, NotTaken}
 
 -- the first n of the readings are entered, into memory of sixteen places
 pub record Entering {R : Type 0} (rs : List R) (n : ℕ) (memory : List R) (len : ℕ) : Type 0 where
@@ -27,6 +27,11 @@ module _ {R : Type 0} {rs memory after : List R} {n len m : ℕ} (w : Entering r
   pub never_full : (e : Refusal) → NotTaken memory len e after m → ⊥
   never_full e t =
       elim t.full [ inl p ↦ omega (arith, p.0, w.few, w.count) | inr p ↦ omega (arith, p.0, p.1, w.places) ]
+
+  -- so the reading is entered
+  pub entering_on : {X : Type 0} (r : Result X Refusal) (x : R) → x ≡ get_or rs n x → Entered memory len x r after m → Entering rs (n + 1) after m
+  entering_on (Ok _) x e t = entering_more x e t
+  entering_on (Err f) x e t = absurd (never_full f t)
 
 pub entering_begun : {R : Type 0} (rs memory : List R) (len : ℕ) → length memory ≡ 16 → length rs ≤ 16 → len ≡ 0 → Entering rs 0 memory len
 entering_begun rs memory len places few e = record { places = places; few = few; count = e; front = ap (λ k. take k memory) e }

@@ -22,7 +22,7 @@ fault_line number line = codes "fault=" ++ (decimal number ++ (codes "," ++ (dec
 
 -- a piece by its numbers
 abbrev pub box_text : PlaneBox → List ℕ
-box_text b = decimal b.x0 ++ (codes "," ++ (decimal b.y0 ++ (codes "," ++ (decimal b.x1 ++ (codes "," ++ decimal b.y1)))))
+box_text b = decimal b.columns.low ++ (codes "," ++ (decimal b.rows.low ++ (codes "," ++ (decimal b.columns.high ++ (codes "," ++ decimal b.rows.high)))))
 
 abbrev pub arc_text : Arc → List ℕ
 arc_text a = decimal a.start ++ (codes "," ++ decimal a.len)

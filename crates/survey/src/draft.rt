@@ -12,9 +12,7 @@ pub(crate) fn sealed<'a, R: Copy>(memory: &'a mut [R], readings: &[R]) -> Readin
 {
     let mut draft = Draft::new(memory);
     for reading in readings {
-        let Ok(()) = draft.enter(*reading) else {
-            unreachable()
-        };
+        draft.enter(*reading).unwrap();
     }
     draft.seal()
 }

@@ -14,33 +14,37 @@ use plane::plane_box::PlaneBox;
 use readings::request::{Asked, Request};
 use std::alloc::{AllocError, Global};
 
-fn plane_text(heap: Global, request: &Request<PlaneBox, PlaneReading>) -> Result<String, AllocError>
+// Kept as two: `listed` is the one text; a generic function may not end a sheet of a size that its signature does not show.
+fn plane_text(
+    alloc: Global,
+    request: &Request<PlaneBox, PlaneReading>,
+) -> Result<String, AllocError>
     requires { Sensible (meant request.now) }
     ensures { IfOk result (λ t. Paving plane_maps plane_meaning box_text (meant request.now) (string_bytes t)) }
 {
     let readings = request.readings.all();
     let mut memory = [readings[0]; 16];
-    let (text, _sheet) = listed(heap, &mut memory, request)?;
+    let (text, _sheet) = listed(alloc, &mut memory, request)?;
     Ok(text)
 }
 
-fn dial_text(heap: Global, request: &Request<Arc, ArcReading>) -> Result<String, AllocError>
+fn dial_text(alloc: Global, request: &Request<Arc, ArcReading>) -> Result<String, AllocError>
     requires { Sensible (meant request.now) }
     ensures { IfOk result (λ t. Paving dial_maps dial_meaning arc_text (meant request.now) (string_bytes t)) }
 {
     let readings = request.readings.all();
     let mut memory = [readings[0]; 16];
-    let (text, _sheet) = listed(heap, &mut memory, request)?;
+    let (text, _sheet) = listed(alloc, &mut memory, request)?;
     Ok(text)
 }
 
 // The listing of what a file asks for, of whichever kind.
-pub(crate) fn asked_text(heap: Global, asked: &Asked) -> Result<String, AllocError>
+pub(crate) fn asked_text(alloc: Global, asked: &Asked) -> Result<String, AllocError>
     requires { Makes (meant_by asked.now) }
     ensures { IfOk result (λ t. Paves (meant_by asked.now) (string_bytes t)) }
 {
     match asked {
-        Asked::Plane(request) => plane_text(heap, request),
-        Asked::Dial(request) => dial_text(heap, request),
+        Asked::Plane(request) => plane_text(alloc, request),
+        Asked::Dial(request) => dial_text(alloc, request),
     }
 }

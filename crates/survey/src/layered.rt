@@ -1,8 +1,8 @@
 // The layers over the readings of a file.
 ghost use Rattle.std.specs.Prelude.{◌≡◌, ◌<◌, map, length};
 ghost use Rattle.contractor.specs.Layers.{relaxed};
-ghost use Rattle.panels.specs.Panels.{means};
-ghost use Rattle.survey.specs.Lists.{readings_of, relaxed_list};
+ghost use Rattle.contractor.specs.Means.{means};
+ghost use Rattle.survey.specs.Lists.{readings_of};
 
 use contractor::contractor::Contractor;
 use layers::fixed::Fixed;
@@ -15,10 +15,7 @@ pub(crate) fn layered<'a, R: Contractor + Copy>(
     liars: u16,
 ) -> Fixed<Relaxed<ReadingList<'a, R>>>
     requires { liars < length (readings_of list) }
-    ensures { relaxed_list R.Piece.Domain.maps (means R.Contractor.set R.Contractor.kept R.Contractor.dropped) result.inner ≡ relaxed R.Piece.Domain.maps liars (map (means R.Contractor.set R.Contractor.kept R.Contractor.dropped) (readings_of list.entry)) }
+    ensures { means ⟦<Relaxed<ReadingList<'a, R>> as Contractor>⟧ result.inner ≡ relaxed R.Piece.Domain.maps liars (map (means R.Contractor) (readings_of list.entry)) }
 {
-    let Ok(relaxed) = Relaxed::new(list, usize::from(liars)) else {
-        unreachable()
-    };
-    Fixed::new(relaxed)
+    Fixed::new(Relaxed::new(list, usize::from(liars)).unwrap())
 }

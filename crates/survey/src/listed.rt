@@ -1,6 +1,6 @@
 // The listing of what a file asks for, for either kind of reading.
 ghost use Rattle.std.specs.Prelude.{◌≡◌, ℕ, List, length, IfOk, string_bytes};
-ghost use Rattle.panels.specs.Panels.{means};
+ghost use Rattle.contractor.specs.Means.{means};
 ghost use Rattle.listing.specs.Lines.{Shown};
 ghost use Rattle.readings.specs.Files.{Sensible};
 ghost use Rattle.readings.specs.Requests.{meant};
@@ -21,14 +21,14 @@ use std::fmt;
 
 // The text, and the sheet as it then stands. The memory has a place for each reading.
 pub(crate) fn listed<'a, P: Domain + fmt::Display, R: Contractor<Piece = P> + Copy>(
-    heap: Global,
+    alloc: Global,
     memory: &'a mut [R],
     request: &Request<P, R>,
 ) -> Result<(String, Sheet<Fixed<Relaxed<ReadingList<'a, R>>>>), AllocError>
     requires { (length memory.old ≡ 16) × (Sensible (meant request.now)) }
-    ensures { (shown : P → List ℕ) → Shown P.Display.output shown → IfOk result (λ p. Paving P.Domain.maps (means R.Contractor.set R.Contractor.kept R.Contractor.dropped) shown (meant request.now) (string_bytes p.0)) }
+    ensures { (shown : P → List ℕ) → Shown P.Display.output shown → IfOk result (λ p. Paving P.Domain.maps (means R.Contractor) shown (meant request.now) (string_bytes p.0)) }
 {
     let readings = sealed(memory, request.readings.all());
     let contractor = layered(readings, request.liars);
-    list(heap, contractor, request.start, request.grain)
+    list(alloc, contractor, request.start, request.grain)
 }

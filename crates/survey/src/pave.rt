@@ -11,23 +11,21 @@ use readings::read::read;
 use std::alloc::{AllocError, Global};
 
 // `fault=NUMBER,LINE`
-fn fault_text(heap: Global, fault: Fault) -> Result<String, AllocError>
+fn fault_text(alloc: Global, fault: Fault) -> Result<String, AllocError>
     ensures { IfOk result (λ t. string_bytes t ≡ fault_line (code fault.refusal) fault.line) }
 {
-    let number = fault.refusal.code();
-    let line = fault.line;
-    format!(in heap; "fault={number},{line}\n")
+    format!(in alloc; "{fault}\n")
 }
 
 // The listing of the start that the file's readings pave, or the line of its first fault. A listing is true of the
 // ground, and the same for the same reading lines in another order. An error says that no memory was left for the text.
-pub fn pave(heap: Global, file: &[u8]) -> Result<String, AllocError>
+pub fn pave(alloc: Global, file: &[u8]) -> Result<String, AllocError>
     ensures value { IfOk result (λ t. Prints file.now (string_bytes t)) }
     ensures ground { IfOk result (λ t. Grounded file.now (string_bytes t)) }
     ensures order { IfOk result (λ t. Ordered file.now (string_bytes t)) }
 {
     match read(file) {
-        Ok(asked) => asked_text(heap, &asked),
-        Err(fault) => fault_text(heap, fault),
+        Ok(asked) => asked_text(alloc, &asked),
+        Err(fault) => fault_text(alloc, fault),
     }
 }

@@ -7,7 +7,6 @@ use domain::refusal::Refusal;
 use layers::relaxed::Relaxed;
 use leaves::arc::ArcReading;
 use panels::draft::Draft;
-use panels::entered::Entered;
 use panels::joined::Joined;
 use panels::panel::Panel;
 use panels::reading_list::ReadingList;
@@ -24,38 +23,30 @@ pub(crate) fn run(rt: &impl Print) -> anyhow::Result<()> {
 }
 
 fn bearing(start: u16, len: u16) -> Result<ArcReading, Refusal> {
-    Ok(ArcReading {
-        arc: Arc::new(start, len)?,
-    })
+    Arc::new(start, len).map(ArcReading::from)
 }
 
 // The arcs 10,5, 12,5 and 100,5, entered and sealed.
 fn three<'a>(memory: &'a mut [ArcReading]) -> Result<ReadingList<'a, ArcReading>, Refusal> {
+    Ok(drafted(memory)?.seal())
+}
+
+// The same, not yet sealed.
+fn drafted<'a>(memory: &'a mut [ArcReading]) -> Result<Draft<'a, ArcReading>, Refusal> {
     let mut draft = Draft::new(memory);
-    draft.enter(bearing(10, 5)?)?;
-    draft.enter(bearing(12, 5)?)?;
-    draft.enter(bearing(100, 5)?)?;
-    Ok(draft.seal())
+    for start in [10, 12, 100].iter() {
+        draft.enter(bearing(*start, 5)?)?;
+    }
+    Ok(draft)
 }
 
 // What the three leave of the whole dial, where one may be wrong.
 fn relaxed(rt: &impl Print, memory: &mut [ArcReading]) -> anyhow::Result<()> {
     let circle = Arc::new(0, 3600)?;
     let layer = Relaxed::new(three(memory)?, 1)?;
-    show(
-        rt,
-        "three arcs, one liar:",
-        "kept",
-        &circle,
-        layer.keep(&circle),
-    )?;
-    show(
-        rt,
-        "three arcs, one liar:",
-        "shed",
-        &circle,
-        layer.shed(&circle),
-    )
+    let name = "three arcs, one liar:";
+    show(rt, name, "kept", &circle, layer.keep(&circle))?;
+    show(rt, name, "shed", &circle, layer.shed(&circle))
 }
 
 fn liars(rt: &impl Print, memory: &mut [ArcReading], liars: usize) -> anyhow::Result<()> {
@@ -80,10 +71,7 @@ fn no_member(rt: &impl Print, memory: &mut [ArcReading]) -> anyhow::Result<()> {
 
 // A fourth reading where three fit.
 fn full_memory(rt: &impl Print, memory: &mut [ArcReading]) -> anyhow::Result<()> {
-    let mut draft = Draft::new(memory);
-    draft.enter(bearing(10, 5)?)?;
-    draft.enter(bearing(12, 5)?)?;
-    draft.enter(bearing(100, 5)?)?;
+    let mut draft = drafted(memory)?;
     if let Err(refusal) = draft.enter(bearing(200, 5)?) {
         println!(rt; "a fourth reading: {refusal}")?;
     }

@@ -17,9 +17,7 @@ pub(crate) fn run(rt: &impl Print) -> anyhow::Result<()> {
         &Cone::new(0, 0, 1, 0, 1, 1)?,
         &cells,
     )?;
-    let bearing = ArcReading {
-        arc: Arc::new(3598, 4)?,
-    };
+    let bearing = ArcReading::from(Arc::new(3598, 4)?);
     narrow(rt, "arc 3598,4", &bearing, &Arc::new(3590, 20)?)
 }
 

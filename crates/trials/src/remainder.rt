@@ -1,5 +1,6 @@
 // What is left to search of a piece, whatever the domain.
 use domain::domain::Domain;
+use domain::refusal::Refusal;
 use domain::sums::points_left;
 use std::fmt::Display;
 
@@ -23,6 +24,19 @@ pub(crate) fn report<P: Domain + Display>(
     }
     let left = points_left(whole, searched)?;
     println!(rt; "sum: {done} searched and {left} left of {all}")?;
+    Ok(())
+}
+
+// Whether numbers are those of a piece.
+pub(crate) fn judge<P: Display + Drop>(
+    rt: &impl Print,
+    numbers: &str,
+    made: Result<P, Refusal>,
+) -> anyhow::Result<()> {
+    match made {
+        Ok(piece) => println!(rt; "{piece} is a piece")?,
+        Err(refusal) => println!(rt; "{numbers} is {refusal}")?,
+    }
     Ok(())
 }
 

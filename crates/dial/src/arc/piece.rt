@@ -6,7 +6,6 @@ ghost use Rattle.dial.specs.Arcs.{dial};
 ghost use Rattle.dial.specs.Lawful;
 
 use crate::arc::Arc;
-use crate::arc::order::Order;
 use crate::arc::runs::offset_of;
 use domain::domain::Domain;
 use domain::refusal::Refusal;
@@ -32,7 +31,8 @@ impl Domain for Arc {
     }
 
     fn from_number(number: u64) -> Result<Arc, Refusal> {
-        Arc::numbered(number)
+        let start = u16::try_from(number / 4096).map_err(|_| Refusal::NotAPiece)?;
+        Arc::new(start, (number % 4096) as u16)
     }
 
     fn holds(&self, point: u32) -> bool {
@@ -40,7 +40,7 @@ impl Domain for Arc {
     }
 
     fn is_within(&self, outer: &Arc) -> bool {
-        self.lies_within(outer)
+        outer.begin_of(self) + self.len <= outer.len
     }
 
     fn halves(&self) -> Result<(Arc, Arc), Refusal> {
@@ -52,7 +52,7 @@ impl Domain for Arc {
     }
 
     fn strips(&self, inner: &Arc) -> Result<Strips<Arc>, Refusal> {
-        if !inner.lies_within(self) {
+        if !inner.is_within(self) {
             return Err(Refusal::NotAPiece);
         }
         let begin = self.begin_of(inner);
@@ -60,8 +60,7 @@ impl Domain for Arc {
         Ok(Strips {
             first: self.strip(0, begin),
             second: self.strip(end, self.len - end),
-            third: None,
-            fourth: None,
+            ..Strips::none()
         })
     }
 
@@ -70,16 +69,13 @@ impl Domain for Arc {
         ensures value { Given result 1 (Fits dial self.now one × Fits dial self.now other) (λ s. s ≡ dial.span self.now one other) }
         ensures smallest { IfOk result (λ s. Smallest dial self.now (λ n. Holds dial one n ⊎ Holds dial other n) s) }
     {
-        if !self.takes(one) || !self.takes(other) {
+        if !self.takes(&one) || !self.takes(&other) {
             return Err(Refusal::NotAPiece);
         }
-        let Some(p) = one else {
-            return Ok(other);
-        };
-        let Some(q) = other else {
-            return Ok(one);
-        };
-        Ok(Some(self.spanning(&p, &q)))
+        match (one, other) {
+            (Some(p), Some(q)) => Ok(Some(self.spanning(&p, &q))),
+            _ => Ok(one.or(other)),
+        }
     }
 
     // The gathering is the smallest sub-piece that holds every point that at least `depth` members hold.
@@ -90,7 +86,7 @@ impl Domain for Arc {
         if depth == 0 || !self.has_members(members) {
             return Err(Refusal::NotAPiece);
         }
-        Ok(self.along(deep_run(&Order { along: *self }, members, depth)))
+        Ok(self.along(deep_run(self, members, depth)))
     }
 
     fn height(&self) -> u32 {

@@ -1,7 +1,6 @@
 // Arcs in the order of another arc.
-ghost use Rattle.std.specs.Prelude.{◌≡◌, ◌+◌, ◌<◌, ◌≤◌, true, IfSome, Some, Decides};
-ghost use Rattle.domain.specs.Maps.{Fits};
-ghost use Rattle.dial.specs.Arcs.{along, begin, dial, offset, part, span, within};
+ghost use Rattle.std.specs.Prelude.{◌≡◌, ◌+◌, ◌<◌, ◌≤◌, true, IfSome, Some};
+ghost use Rattle.dial.specs.Arcs.{along, begin, offset, part, span, within};
 
 use crate::arc::Arc;
 use scan::stretch::Stretch;
@@ -38,10 +37,7 @@ impl Arc {
         requires { from + len ≤ self.now.len }
         ensures { result ≡ part self.now from len }
     {
-        if len == 0 {
-            return None;
-        }
-        Some(self.run(from, len))
+        (len != 0).then(|| self.run(from, len))
     }
 
     // A stretch of the arc's own order, if there is one, as an arc.
@@ -49,20 +45,8 @@ impl Arc {
         requires { IfSome stretch (λ s. (s.low ≤ s.high) × (s.high < self.now.len)) }
         ensures { result ≡ along self.now stretch }
     {
-        let Some(Stretch { low, high }) = stretch else {
-            return None;
-        };
+        let Stretch { low, high } = stretch?;
         Some(self.run(low as u16, (high + 1 - low) as u16))
-    }
-
-    // Whether what is given, if anything, is a sub-piece.
-    pub(crate) fn takes(&self, given: Option<Arc>) -> bool
-        ensures { Decides result (Fits dial self.now given) }
-    {
-        match given {
-            Some(arc) => arc.lies_within(self),
-            None => true,
-        }
     }
 
     // From where the first of two sub-pieces begins to where the last one ends.

@@ -1,7 +1,8 @@
 // How a ring is made.
-ghost use Rattle.std.specs.Prelude.{Decides};
-ghost use Rattle.leaves.specs.Rings.{AreRadii, IsBeacon, RingMade};
+ghost use Rattle.std.specs.Prelude.{◌≡◌, Decides};
+ghost use Rattle.leaves.specs.Rings.{AreRadii, RingMade};
 
+use crate::beacon::Beacon;
 use crate::ring::Ring;
 use domain::refusal::Refusal;
 
@@ -11,26 +12,28 @@ impl Ring {
     pub fn new(bx: i32, by: i32, a: i32, b: i32) -> Result<Ring, Refusal>
         ensures { RingMade bx by a b result }
     {
-        if !is_beacon(bx, by) {
-            return Err(Refusal::OutOfRange);
-        }
+        let beacon = Beacon::new(bx, by)?;
         if !are_radii(a, b) {
             return Err(Refusal::BadRadii);
         }
         Ok(Ring {
-            bx: bx as i16,
-            by: by as i16,
+            beacon,
             inner: a as u16,
             outer: b as u16,
         })
     }
-}
 
-// Whether two numbers may be a beacon's.
-pub(crate) fn is_beacon(bx: i32, by: i32) -> bool
-    ensures { Decides result (IsBeacon bx by) }
-{
-    -16384 <= bx && bx <= 16383 && -16384 <= by && by <= 16383
+    // The ring turned over the line of equal columns and rows: its columns are this one's rows.
+    pub(crate) fn turned(self) -> Ring
+        ensures beacon { (result.beacon.x ≡ self.beacon.y) × (result.beacon.y ≡ self.beacon.x) }
+        ensures radii { (result.inner ≡ self.inner) × (result.outer ≡ self.outer) }
+    {
+        Ring {
+            beacon: self.beacon.turned(),
+            inner: self.inner,
+            outer: self.outer,
+        }
+    }
 }
 
 // Whether two numbers may be a ring's radii.

@@ -1,56 +1,39 @@
-// What a list of numbered members must be to be gathered, and the deep columns and rows of it.
-ghost use Rattle.std.specs.Prelude.{◌≡◌, ℕ, ◌<◌, Decides};
-ghost use Rattle.domain.specs.Maps.{Member, Members};
-ghost use Rattle.plane.specs.Boxes.{plane};
-ghost use Rattle.plane.specs.Gathering.{columns_numbered, rows_numbered, Found};
+// The columns or the rows that so many of a list of numbered boxes hold.
+ghost use Rattle.std.specs.Prelude.{◌≤◌};
+ghost use Rattle.plane.specs.Gathering.{numbered_at, FoundSpan};
 
-use crate::plane_box::PlaneBox;
-use crate::plane_box::sides::{Columns, Rows};
-use domain::domain::Domain;
-use scan::depth::deep_run;
+use crate::span::Span;
+use scan::depth::{Side, deep_run};
 use scan::stretch::Stretch;
 
-impl PlaneBox {
-    // Whether the depth is at least 1 and each number is that of a sub-piece.
-    pub(crate) fn can_gather(&self, members: &[u64], depth: usize) -> bool
-        ensures { Decides result ((0 < depth) × Members plane self.now members.now) }
-    {
-        0 < depth && self.has_members(members)
-    }
+// The columns or the rows of boxes, each known by its number. The last column stands 12 binary places
+// from the number's right end, the last row at the end, and the first of each 24 places before the last.
+#[derive(Clone, Copy)]
+pub(crate) struct Numbered {
+    place: u32,
+    ghost bounded: { place ≤ 12 },
+}
 
-    // Whether each number is that of a sub-piece.
-    fn has_members(&self, members: &[u64]) -> bool
-        ensures { Decides result (Members plane self.now members.now) }
-    {
-        for member in members {
-            if !self.has_member(*member) {
-                return false;
-            }
-        }
-        true
-    }
+impl Numbered {
+    pub(crate) const COLUMNS: Numbered = Numbered { place: 12 };
 
-    // Whether a number is that of a sub-piece.
-    fn has_member(&self, member: u64) -> bool
-        ensures { Decides result (Member plane self.now member) }
+    pub(crate) const ROWS: Numbered = Numbered { place: 0 };
+
+    // From the first to the last column or row that at least `depth` of the numbered members hold.
+    pub(crate) fn deep_span(&self, members: &[u64], depth: usize) -> Option<Span>
+        ensures { FoundSpan (numbered_at self.now.place) members.now depth result }
     {
-        match PlaneBox::from_number(member) {
-            Ok(piece) => piece.is_within(self),
-            Err(_) => false,
-        }
+        deep_run(self, members, depth).and_then(Span::from_stretch)
     }
 }
 
-// From the first to the last column that at least `depth` of the numbered members hold.
-pub(crate) fn deep_columns(members: &[u64], depth: usize) -> Option<Stretch>
-    ensures { Found columns_numbered members.now depth result }
-{
-    deep_run(&Columns, members, depth)
-}
+impl Side for Numbered {
+    ghost extent = { λ side n. numbered_at side.place n };
 
-// From the first to the last row that at least `depth` of the numbered members hold.
-pub(crate) fn deep_rows(members: &[u64], depth: usize) -> Option<Stretch>
-    ensures { Found rows_numbered members.now depth result }
-{
-    deep_run(&Rows, members, depth)
+    fn stretch(&self, member: u64) -> Stretch {
+        Stretch {
+            low: ((member >> (self.place + 24)) % 4096) as u32,
+            high: ((member >> self.place) % 4096) as u32,
+        }
+    }
 }

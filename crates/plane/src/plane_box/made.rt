@@ -1,10 +1,11 @@
 // How a box is made, and what it is made of.
-ghost use Rattle.std.specs.Prelude.{◌≡◌, Some, None, Decides, MatchResult};
+ghost use Rattle.std.specs.Prelude.{◌≡◌, Some, None, MatchResult};
 ghost use Rattle.domain.specs.Refusals.{Given, code};
-ghost use Rattle.plane.specs.Boxes.{AreBox, box_of, HasNumbers};
+ghost use Rattle.plane.specs.Boxes.{AreBox, box_of, crossing, HasNumbers};
 ghost use Rattle.plane.specs.Promises.{Worked};
 
 use crate::plane_box::PlaneBox;
+use crate::span::Span;
 use domain::refusal::Refusal;
 
 impl PlaneBox {
@@ -13,10 +14,17 @@ impl PlaneBox {
         ensures value { Given result 1 (AreBox x0 y0 x1 y1) (λ b. HasNumbers x0 y0 x1 y1 b) }
         ensures made { MatchResult result (λ b. box_of x0 y0 x1 y1 ≡ Some b) (λ e. (box_of x0 y0 x1 y1 ≡ None) × (code e ≡ 1)) }
     {
-        if !is_box(x0, y0, x1, y1) {
-            return Err(Refusal::NotAPiece);
-        }
-        Ok(PlaneBox { x0, y0, x1, y1 })
+        PlaneBox::crossing(Span::of(x0, x1), Span::of(y0, y1)).ok_or(Refusal::NotAPiece)
+    }
+
+    // The box of a span of columns and a span of rows; nothing if either is nothing.
+    pub fn crossing(columns: Option<Span>, rows: Option<Span>) -> Option<PlaneBox>
+        ensures { result ≡ crossing columns rows }
+    {
+        Some(PlaneBox {
+            columns: columns?,
+            rows: rows?,
+        })
     }
 
     // The whole plane, the largest box. Its second clause is a table of worked values.
@@ -25,45 +33,36 @@ impl PlaneBox {
         ensures worked { Worked }
     {
         PlaneBox {
-            x0: 0,
-            y0: 0,
-            x1: 4095,
-            y1: 4095,
+            columns: Span::whole(),
+            rows: Span::whole(),
         }
     }
 
     // The first column.
     pub fn x0(&self) -> u16
-        ensures { result ≡ self.now.x0 }
+        ensures { result ≡ self.now.columns.low }
     {
-        self.x0
+        self.columns.low()
     }
 
     // The first row.
     pub fn y0(&self) -> u16
-        ensures { result ≡ self.now.y0 }
+        ensures { result ≡ self.now.rows.low }
     {
-        self.y0
+        self.rows.low()
     }
 
     // The last column.
     pub fn x1(&self) -> u16
-        ensures { result ≡ self.now.x1 }
+        ensures { result ≡ self.now.columns.high }
     {
-        self.x1
+        self.columns.high()
     }
 
     // The last row.
     pub fn y1(&self) -> u16
-        ensures { result ≡ self.now.y1 }
+        ensures { result ≡ self.now.rows.high }
     {
-        self.y1
+        self.rows.high()
     }
-}
-
-// Whether four numbers are those of a box.
-fn is_box(x0: u16, y0: u16, x1: u16, y1: u16) -> bool
-    ensures { Decides result (AreBox x0 y0 x1 y1) }
-{
-    x0 <= x1 && y0 <= y1 && x1 <= 4095 && y1 <= 4095
 }

@@ -8,11 +8,10 @@ ghost use Rattle.plane.specs.Gathering.{CrossingOf};
 ghost use Rattle.plane.specs.Lawful;
 
 use crate::plane_box::PlaneBox;
-use crate::plane_box::gathers::{deep_columns, deep_rows};
+use crate::plane_box::gathers::Numbered;
 use domain::domain::Domain;
 use domain::refusal::Refusal;
 use domain::strip_slots::Strips;
-use scan::depth::covers_index;
 use scan::powers::log_up;
 
 impl Domain for PlaneBox {
@@ -21,18 +20,18 @@ impl Domain for PlaneBox {
     ghost lawful = { Lawful.lawful };
 
     fn count(&self) -> u64 {
-        u64::from(self.wide()) * u64::from(self.tall())
+        u64::from(self.columns.len()) * u64::from(self.rows.len())
     }
 
     fn size(&self) -> u32 {
-        self.wide().max(self.tall())
+        self.columns.len().max(self.rows.len())
     }
 
     fn number(&self) -> u64 {
-        (u64::from(self.x0) << 36)
-            + (u64::from(self.y0) << 24)
-            + (u64::from(self.x1) << 12)
-            + u64::from(self.y1)
+        (u64::from(self.x0()) << 36)
+            + (u64::from(self.y0()) << 24)
+            + (u64::from(self.x1()) << 12)
+            + u64::from(self.y1())
     }
 
     fn from_number(number: u64) -> Result<PlaneBox, Refusal> {
@@ -51,11 +50,11 @@ impl Domain for PlaneBox {
         ensures value { result ≡ holds_of self.now point }
         ensures exact { Exact self.now }
     {
-        covers_index(self.columns(), point % 4096) && covers_index(self.rows(), point / 4096)
+        self.columns.holds(point % 4096) && self.rows.holds(point / 4096)
     }
 
     fn is_within(&self, outer: &PlaneBox) -> bool {
-        outer.x0 <= self.x0 && self.x1 <= outer.x1 && outer.y0 <= self.y0 && self.y1 <= outer.y1
+        self.columns.is_within(&outer.columns) && self.rows.is_within(&outer.rows)
     }
 
     fn halves(&self) -> Result<(PlaneBox, PlaneBox), Refusal> {
@@ -63,9 +62,26 @@ impl Domain for PlaneBox {
             return Err(Refusal::NotAPiece);
         }
         if self.is_cut_by_columns() {
-            return Ok(self.halve_columns());
+            let (low, high) = self.columns.halves();
+            return Ok((
+                PlaneBox {
+                    columns: low,
+                    ..*self
+                },
+                PlaneBox {
+                    columns: high,
+                    ..*self
+                },
+            ));
         }
-        Ok(self.halve_rows())
+        let (low, high) = self.rows.halves();
+        Ok((
+            PlaneBox { rows: low, ..*self },
+            PlaneBox {
+                rows: high,
+                ..*self
+            },
+        ))
     }
 
     fn strips(&self, inner: &PlaneBox) -> Result<Strips<PlaneBox>, Refusal> {
@@ -73,10 +89,10 @@ impl Domain for PlaneBox {
             return Err(Refusal::NotAPiece);
         }
         Ok(Strips {
-            first: self.columns_from(self.x0, inner.x0 - self.x0),
-            second: self.columns_from(inner.x1 + 1, self.x1 - inner.x1),
-            third: inner.rows_from(self.y0, inner.y0 - self.y0),
-            fourth: inner.rows_from(inner.y1 + 1, self.y1 - inner.y1),
+            first: PlaneBox::crossing(self.columns.before(&inner.columns), Some(self.rows)),
+            second: PlaneBox::crossing(self.columns.after(&inner.columns), Some(self.rows)),
+            third: PlaneBox::crossing(Some(inner.columns), self.rows.before(&inner.rows)),
+            fourth: PlaneBox::crossing(Some(inner.columns), self.rows.after(&inner.rows)),
         })
     }
 
@@ -88,7 +104,7 @@ impl Domain for PlaneBox {
         ensures value { Given result 1 (Fits plane self.now one × Fits plane self.now other) (λ s. s ≡ span_of self.now one other) }
         ensures smallest { Given result 1 (Fits plane self.now one × Fits plane self.now other) (λ s. Smallest plane self.now (HeldByEither one other) s) }
     {
-        if !self.holds_both(one, other) {
+        if !self.takes(&one) || !self.takes(&other) {
             return Err(Refusal::NotAPiece);
         }
         Ok(PlaneBox::enclosing(one, other))
@@ -98,15 +114,18 @@ impl Domain for PlaneBox {
         ensures value { Given result 1 ((0 < depth) × Members plane self.now members.now) (λ s. Gathered plane self.now members.now depth s) }
         ensures runs { IfOk result (λ s. CrossingOf members.now depth s) }
     {
-        if !self.can_gather(members, depth) {
+        if depth == 0 || !self.has_members(members) {
             return Err(Refusal::NotAPiece);
         }
-        Ok(PlaneBox::crossing(deep_columns(members, depth), deep_rows(members, depth)))
+        Ok(PlaneBox::crossing(
+            Numbered::COLUMNS.deep_span(members, depth),
+            Numbered::ROWS.deep_span(members, depth),
+        ))
     }
 
     fn height(&self) -> u32 {
-        let across = log_up(self.wide());
-        let up = log_up(self.tall());
+        let across = log_up(self.columns.len());
+        let up = log_up(self.rows.len());
         across + up
     }
 }

@@ -5,13 +5,9 @@ use crate::plane_box::PlaneBox;
 use std::fmt;
 
 impl fmt::Display for PlaneBox {
-    ghost output = { λ b. Some (decimal b.x0 ++ (codes "," ++ (decimal b.y0 ++ (codes "," ++ (decimal b.x1 ++ (codes "," ++ decimal b.y1)))))) };
+    ghost output = { λ b. Some (decimal b.columns.low ++ (codes "," ++ (decimal b.rows.low ++ (codes "," ++ (decimal b.columns.high ++ (codes "," ++ decimal b.rows.high)))))) };
 
     fn fmt<W: fmt::Write>(&self, f: &mut fmt::Formatter<W>) -> fmt::Result {
-        let x0 = self.x0;
-        let y0 = self.y0;
-        let x1 = self.x1;
-        let y1 = self.y1;
-        write!(f, "{x0},{y0},{x1},{y1}")
+        write!(f, "{},{},{},{}", self.x0(), self.y0(), self.x1(), self.y1())
     }
 }

@@ -1,77 +1,28 @@
-// The two sides of a box, and how long each is.
+// The two sides of a box.
 ghost use Rattle.std.specs.Prelude.{◌≡◌, nat_le};
-ghost use Rattle.plane.specs.Boxes.{columns as columns_of, rows as rows_of, wide as wide_of, tall as tall_of};
-ghost use Rattle.plane.specs.Gathering.{columns_numbered, rows_numbered};
+ghost use Rattle.plane.specs.Boxes.{wide as wide_of, tall as tall_of};
 
 use crate::plane_box::PlaneBox;
-use scan::depth::Side;
-use scan::stretch::Stretch;
+use crate::span::Span;
 
 impl PlaneBox {
-    pub fn columns(&self) -> Stretch
-        ensures { result ≡ columns_of self.now }
+    pub fn columns(&self) -> Span
+        ensures { result ≡ self.now.columns }
     {
-        Stretch {
-            low: u32::from(self.x0),
-            high: u32::from(self.x1),
-        }
+        self.columns
     }
 
-    pub fn rows(&self) -> Stretch
-        ensures { result ≡ rows_of self.now }
+    pub fn rows(&self) -> Span
+        ensures { result ≡ self.now.rows }
     {
-        Stretch {
-            low: u32::from(self.y0),
-            high: u32::from(self.y1),
-        }
-    }
-
-    // How many columns it has.
-    pub(crate) fn wide(&self) -> u32
-        ensures { result ≡ wide_of self.now }
-    {
-        u32::from(self.x1 - self.x0) + 1
-    }
-
-    // How many rows it has.
-    pub(crate) fn tall(&self) -> u32
-        ensures { result ≡ tall_of self.now }
-    {
-        u32::from(self.y1 - self.y0) + 1
+        self.rows
     }
 
     // Whether there are at least as many columns as rows, so that they are what is cut.
     pub(crate) fn is_cut_by_columns(&self) -> bool
         ensures { result ≡ nat_le (tall_of self.now) (wide_of self.now) }
     {
-        self.tall() <= self.wide()
-    }
-}
-
-// The columns of boxes, each known by its number.
-pub struct Columns;
-
-// The rows of boxes, each known by its number.
-pub struct Rows;
-
-impl Side for Columns {
-    ghost extent = { λ _ n. columns_numbered n };
-
-    fn stretch(&self, member: u64) -> Stretch {
-        Stretch {
-            low: (member >> 36) as u32,
-            high: ((member >> 12) % 4096) as u32,
-        }
-    }
-}
-
-impl Side for Rows {
-    ghost extent = { λ _ n. rows_numbered n };
-
-    fn stretch(&self, member: u64) -> Stretch {
-        Stretch {
-            low: ((member >> 24) % 4096) as u32,
-            high: (member % 4096) as u32,
-        }
+        let PlaneBox { columns, rows } = self;
+        rows.len() <= columns.len()
     }
 }

@@ -1,28 +1,13 @@
 use Rattle.std.proofs.Common.{string_bytes}
-use Rattle.std.proofs.lemmas.Result.{IfOk-from_err}
-use Rattle.sheet.specs.Standing.{means}
+use Rattle.contractor.specs.Means.{means}
 use Rattle.sheet.proofs.Opening.{opened_task}
 use Rattle.listing.proofs.Closings.{finished, listed}
 use Rattle.listing.proofs.list.list.Goals as goal
 
-pub returns-in_err-pave : goal.returns-in_err-pave
-returns-in_err-pave g c =
-    record {
-      value = λ shown h. IfOk-from_err c.from_residual.result _ c.from_residual.ensures.0;
-      after = IfOk-from_err c.from_residual.result _ c.from_residual.ensures.0;
-    }
-
-pub returns-in_err-write_sum : goal.returns-in_err-write_sum
-returns-in_err-write_sum g c =
-    record {
-      value = λ shown h. IfOk-from_err c.from_residual-in_err-write_sum.result _ c.from_residual-in_err-write_sum.ensures.0;
-      after = IfOk-from_err c.from_residual-in_err-write_sum.result _ c.from_residual-in_err-write_sum.ensures.0;
-    }
-
 pub returns : goal.returns
 returns g c =
     let d = g.P.Domain.maps in
-    let m = means g.C.Contractor.set g.C.Contractor.kept g.C.Contractor.dropped in
+    let m = means g.C.Contractor in
     let k = c.args.contractor in
     let task = opened_task d m k c.args.start c.args.grain c.open-sheet.result c.open-sheet.ensures.value in
     let paved = c.in_ok-pave.ensures in

@@ -1,5 +1,5 @@
 use Rattle.std.proofs.Common.{arith}
-use Rattle.contractor.specs.Meaning.{meaning}
+use Rattle.contractor.specs.Means.{means}
 use Rattle.domain.proofs.Totals.{count_most}
 use Rattle.paving.proofs.SheetLaws.{paving_laws}
 use Rattle.paving.proofs.laws.most_steps.Goals as goal
@@ -16,5 +16,5 @@ returns g c =
     let k = c.args.contractor.now in
     record {
       value = omega (arith, c.count.ensures, g.met.C.Piece.Domain.lawful.some c.args.start.now);
-      laws = paving_laws g.C.Piece.Domain.maps g.met.C.Piece.Domain.lawful (meaning (g.C.Contractor.set k) (g.C.Contractor.kept k) (g.C.Contractor.dropped k)) (g.met.C.Contractor.sound k) c.args.start.now;
+      laws = paving_laws g.C.Piece.Domain.maps g.met.C.Piece.Domain.lawful (means g.C.Contractor k) (g.met.C.Contractor.sound k) c.args.start.now;
     }

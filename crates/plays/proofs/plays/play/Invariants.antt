@@ -1,6 +1,10 @@
-use Rattle.sheet.specs.Standing.{means, task_of}
+use Rattle.contractor.specs.Means.{means}
+use Rattle.sheet.specs.Standing.{task_of}
 use Rattle.plays.proofs.Gaming.{Midway}
 use Rattle.plays.proofs.plays.play.Given as goal
 
 abbrev pub invariant-loop-i : goal.invariant-loop-i
-invariant-loop-i g l = Midway g.C.Piece.Domain.maps (means g.C.Contractor.set g.C.Contractor.kept g.C.Contractor.dropped) (task_of g.C.Piece.Domain.maps (means g.C.Contractor.set g.C.Contractor.kept g.C.Contractor.dropped) l.initial.sheet) l.turns l.i l.sheet l.answers
+invariant-loop-i g l =
+    let d = g.C.Piece.Domain.maps in
+    let m = means g.C.Contractor in
+    Midway d m (task_of d m l.initial.sheet) l.turns l.i l.sheet l.answers

@@ -1,11 +1,15 @@
-use Rattle.std.proofs.Common.{inl, to_z-of_z}
+use Rattle.std.proofs.lemmas.Result.{err_from_is_err_and}
+use Rattle.domain.specs.Refusals.{code}
+use Rattle.readings.specs.Lines.{numbered}
+use Rattle.readings.specs.Sorts.{box_numbers}
+use Rattle.readings.proofs.Making.{box_made, box_small, by_naturals, no_naturals}
 use Rattle.readings.proofs.pieces.box_value.Goals as goal
 
 pub returns : goal.returns
 returns c =
-    let l = c.in-Some.ensures in
-    let f = l.fit.0 in
-    let g = l.fit.1.0 in
-    let h = l.fit.1.1.0 in
-    let k = l.fit.1.1.1.0 in
-    inl (_, l, simp to_z-of_z at c.box_of.ensures)
+    by_naturals 4 box_numbers c.args.value.now c.in_ok-x0.field-0 (numbered c.new.result) c.in_ok-x0.ensures (box_made _ _ _ _ c.new.result c.new.ensures.value)
+
+pub returns-in_err-x0 : goal.returns-in_err-x0
+returns-in_err-x0 c =
+    let p = err_from_is_err_and c.from_residual.result c.from_residual.ensures.1 in
+    rw (p.1, p.2) (no_naturals 4 box_numbers c.args.value.now box_small (code c.in_err-x0.field-0.0) c.in_err-x0.ensures)

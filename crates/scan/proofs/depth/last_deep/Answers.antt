@@ -1,28 +1,15 @@
-use Rattle.std.proofs.Common.{ℕ, Bool, List, map, take, Some, sym, ap, ◌∙◌, subst, arith}
-use Rattle.std.proofs.lemmas.Bool.{le-leb, lt-leb}
-use Rattle.scan.specs.Depth.{deep, depth, Latest}
-use Rattle.scan.proofs.Depths.{values_more, values_all, latest_yes, latest_no}
+use Rattle.std.proofs.Common.{ℕ, Bool, map, sym, ◌∙◌, rules, tests}
+use Rattle.std.proofs.lemmas.Iterator.{YieldsList-from_slice, YieldsList-from_map}
+use Rattle.std.proofs.lemmas.Iterator.Adapters.{option_map_id}
+use Rattle.std.proofs.lemmas.Iterator.Consumers.{YieldsList-at, YieldsList-from_filter, max_from_yields_List}
+use Rattle.scan.specs.Depth.{deep}
+use Rattle.scan.proofs.Depths.{latest_found}
 use Rattle.scan.proofs.depth.last_deep.Goals as goal
-use Rattle.scan.proofs.depth.last_deep.Goals.{then-depth_at-least, else-depth_at-least}
-
-pub loop-member-preserved : goal.loop-member-preserved
-loop-member-preserved g c =
-    let f = g.S.Side.extent c.args.side.now in
-    let ns = c.args.members.now in
-    let t : ℕ → Bool = deep c.args.least (map f ns) in
-    let edges : List ℕ = map (λ n. (f n).high) (take c.loop-member.member-index ns) in
-    let edge : ℕ = c.stretch-edge.result.high in
-    let more = values_more (λ es. Latest t es c.if-depth_at-least.best) (λ n. (f n).high) ns c.loop-member.member-index edge c.loop-member-test.true (ap (λ s. s.high) c.stretch-edge.ensures) in
-    elim c.if-depth_at-least.branch [
-      | then-depth_at-least w ↦
-          more (subst (Latest t _) (sym (w.best-is ∙ ap Some w.later.ensures))
-          (latest_yes t edges edge c.loop-member.best c.loop-member.invariant (le-leb c.args.least (depth (map f ns) edge) (omega (arith, w.if-depth_at-least.true, c.depth_at.ensures)))))
-      | else-depth_at-least w ↦
-          more (subst (Latest t _) (sym w.best-is)
-          (latest_no t edges edge c.loop-member.best c.loop-member.invariant (lt-leb c.args.least (depth (map f ns) edge) (omega (arith, w.if-depth_at-least.false, c.depth_at.ensures)))))
-    ]
 
 pub returns : goal.returns
 returns g c =
     let f = g.S.Side.extent c.args.side.now in
-    values_all (λ es. Latest (deep c.args.least (map f c.args.members.now)) es c.loop-member.best) (λ n. (f n).high) c.args.members.now c.loop-member.member-index c.loop-member-test.false c.loop-member.invariant
+    let t : ℕ → Bool = deep c.args.least (map f c.args.members.now) in
+    latest_found t (map (λ n. (f n).high) c.args.members.now) c.max.result
+    (sym (option_map_id _) ∙ max_from_yields_List c.filter.result _ c.max.ensures.ran
+    (YieldsList-from_filter _ t (YieldsList-at c.filter.ensures.source (YieldsList-from_map _ (λ n. (f n).high) (YieldsList-at c.map.ensures.source (YieldsList-from_slice c.args.members.now cc)) c.map.ensures.closure (λ n r q k. search rules))) c.filter.ensures.closure (λ n r q k. search (rules, tests))))

@@ -1,7 +1,7 @@
 use Rattle.std.proofs.Common.{length, string_bytes, ap, ◌∙◌, arith}
-use Rattle.panels.specs.Panels.{means}
+use Rattle.contractor.specs.Means.{means}
 use Rattle.readings.specs.Requests.{entered}
-use Rattle.survey.specs.Lists.{readings_of, relaxed_list}
+use Rattle.survey.specs.Lists.{readings_of}
 use Rattle.survey.proofs.Layering.{listing_of}
 use Rattle.survey.proofs.listed.listed.Goals as goal
 
@@ -17,7 +17,7 @@ layered-contractor-requires g c = omega (arith, ap length c.sealed-readings.ensu
 pub returns : goal.returns
 returns g c shown h =
     let d = g.P.Domain.maps in
-    let each = means g.R.Contractor.set g.R.Contractor.kept g.R.Contractor.dropped in
+    let each = means g.R.Contractor in
     let request = c.args.request.now in
-    listing_of d each (relaxed_list d each c.layered-contractor.result.inner) request.liars (readings_of c.sealed-readings.result) (entered request.readings)
+    listing_of d each _ request.liars (readings_of c.sealed-readings.result) (entered request.readings)
     c.layered-contractor.ensures (c.sealed-readings.ensures ∙ c.all.ensures) request.start request.grain.size shown (λ p. string_bytes p.0) c.list.result (c.list.ensures.value shown h)

@@ -1,8 +1,6 @@
-use Rattle.std.proofs.Common.{ℕ, sym, ap, ◌∙◌}
-use Rattle.dial.specs.Arcs.{part}
-use Rattle.dial.specs.Slices.{sliced_none}
+use Rattle.std.proofs.Common.{rules}
+use Rattle.dial.proofs.Strips.{strip_part}
 use Rattle.dial.proofs.arc.Arc.strip.Goals as goal
 
-pub returns-then-len-eq0 : goal.returns-then-len-eq0
-returns-then-len-eq0 c =
-    sym (ap (λ (m : ℕ). part c.args.self.now c.args.from m) c.if-len-eq0.true ∙ sliced_none c.args.self.now c.args.from)
+pub returns : goal.returns
+returns c = strip_part c.args.self.now c.args.from c.args.len c.then.result c.then.ensures.variant (search rules)

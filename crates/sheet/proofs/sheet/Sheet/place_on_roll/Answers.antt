@@ -1,35 +1,25 @@
-use Rattle.std.proofs.Common.{◌+◌, drop, sym, refl, ap, ◌∙◌, arith}
-use Rattle.std.proofs.lemmas.List.{drop_all}
+use Rattle.std.proofs.Common.{sym, ap, ◌∙◌, rules}
+use Rattle.std.specs.Option.{option_map}
+use Rattle.std.proofs.lemmas.Iterator.{YieldsList-from_slice}
+use Rattle.std.proofs.lemmas.Iterator.Consumers.{YieldsList-from_chain}
+use Rattle.std.proofs.lemmas.Iterator.Search.{find_from_yields_List}
+use borrow.Author.Tests.{tests}
 use Rattle.paving.specs.Turns.{place_on}
-use Rattle.sheet.specs.Rolls.{rolled}
-use Rattle.sheet.specs.Standing.{means, task_of}
-use Rattle.sheet.proofs.Rolling.{rolled_length}
-use Rattle.sheet.proofs.Searching.{drop_here, place_here, place_later}
+use Rattle.contractor.specs.Means.{means}
+use Rattle.sheet.specs.Standing.{task_of}
+use Rattle.sheet.proofs.Searching.{placed, place_found}
 use Rattle.sheet.proofs.sheet.Sheet.place_on_roll.Goals as goal
 
-pub loop-i-init : goal.loop-i-init
-loop-i-init g c = refl
+pub returns-in-Some : goal.returns-in-Some
+returns-in-Some g c =
+    let t = task_of g.C.Piece.Domain.maps (means g.C.Contractor) c.args.self.now in
+    c.from.ensures ∙ ap (λ o. placed (option_map (λ x. x.now) o)) (sym c.in-Some.is)
+    ∙ ap placed (find_from_yields_List (λ r. t.maps.holds r.piece c.args.point) _ _ _ c.find.ensures.ran (YieldsList-from_chain (YieldsList-from_slice c.as_slices.result.0.now (cc)) (YieldsList-from_slice c.as_slices.result.1.now (cc)) (cc) (cc)) (λ x b q k. search (rules, tests)))
+    ∙ place_found t c.args.point _ ∙ ap (place_on t c.args.point) c.as_slices.ensures
 
-pub returns-then-holds : goal.returns-then-holds
-returns-then-holds g c =
-    let t = task_of g.C.Piece.Domain.maps (means g.C.Contractor.set g.C.Contractor.kept g.C.Contractor.dropped) c.args.self.now in
-    let rs = rolled c.args.self.now.store.roll in
-    let i = c.loop-i.i in
-    let q = c.at-record.result in
-    let e = drop_here rs i q (omega (arith, c.loop-i-test.true, rolled_length c.args.self.now.store.roll)) c.at-record.ensures in
-    c.place_by.ensures ∙ sym (sym c.loop-i.invariant ∙ ap (place_on t c.args.point) e ∙ place_here t c.args.point q (drop (i + 1) rs) (sym c.if-holds.ensures))
-
-pub loop-i-preserved : goal.loop-i-preserved
-loop-i-preserved g c =
-    let t = task_of g.C.Piece.Domain.maps (means g.C.Contractor.set g.C.Contractor.kept g.C.Contractor.dropped) c.args.self.now in
-    let rs = rolled c.args.self.now.store.roll in
-    let i = c.loop-i.i in
-    let q = c.at-record.result in
-    let e = drop_here rs i q (omega (arith, c.loop-i-test.true, rolled_length c.args.self.now.store.roll)) c.at-record.ensures in
-    sym (ap (place_on t c.args.point) e ∙ place_later t c.args.point q (drop (i + 1) rs) (sym c.if-holds.ensures)) ∙ c.loop-i.invariant
-
-pub returns : goal.returns
-returns g c =
-    let t = task_of g.C.Piece.Domain.maps (means g.C.Contractor.set g.C.Contractor.kept g.C.Contractor.dropped) c.args.self.now in
-    let rs = rolled c.args.self.now.store.roll in
-    sym (sym c.loop-i.invariant ∙ ap (place_on t c.args.point) (drop_all c.loop-i.i rs (omega (arith, c.loop-i-test.false, rolled_length c.args.self.now.store.roll))))
+pub returns-in-None : goal.returns-in-None
+returns-in-None g c =
+    let t = task_of g.C.Piece.Domain.maps (means g.C.Contractor) c.args.self.now in
+    ap (λ o. placed (option_map (λ x. x.now) o)) (sym c.in-None.is)
+    ∙ ap placed (find_from_yields_List (λ r. t.maps.holds r.piece c.args.point) _ _ _ c.find.ensures.ran (YieldsList-from_chain (YieldsList-from_slice c.as_slices.result.0.now (cc)) (YieldsList-from_slice c.as_slices.result.1.now (cc)) (cc) (cc)) (λ x b q k. search (rules, tests)))
+    ∙ place_found t c.args.point _ ∙ ap (place_on t c.args.point) c.as_slices.ensures

@@ -1,28 +1,40 @@
-use Rattle.std.proofs.Common.{◌+◌, drop, sym, ap, ◌∙◌, subst, arith}
-use Rattle.std.proofs.lemmas.List.{drop_all}
+use Rattle.std.proofs.Common.{◌+◌, ◌^◌, ◌∷◌, [], ◌++◌, length, map, drop, sym, ap, ◌∙◌, ap₂, arith}
+use Rattle.std.proofs.lemmas.Iterator.{YieldsList-from_slice}
+use Rattle.std.proofs.lemmas.Iterator.Consumers.{YieldsList-at, YieldsList-from_chain, YieldsList-so_far, YieldsList-turn, YieldsList-end}
+use Rattle.std.proofs.lemmas.List.{map-append}
+use Rattle.contractor.specs.Means.{means}
+use Rattle.paving.specs.Laws.{points_at, points_in}
+use Rattle.paving.specs.Turns.{points_of}
 use Rattle.sheet.specs.Counts.{plus}
-use Rattle.sheet.specs.Rolls.{rolled}
-use Rattle.sheet.specs.Standing.{means, task_of}
-use Rattle.sheet.proofs.Rolling.{rolled_length}
-use Rattle.sheet.proofs.Searching.{drop_here}
-use Rattle.sheet.proofs.Counting.{Counted, counted_more, counted_all}
+use Rattle.sheet.specs.Standing.{task_of}
+use Rattle.sheet.proofs.Counting.{passed, plus_more, points_room, roll_fits}
 use Rattle.sheet.proofs.sheet.Sheet.points_on_roll.Goals as goal
 
-pub loop-i-init : goal.loop-i-init
-loop-i-init g c h = (omega arith, omega arith, omega arith)
+pub add_points-requires : goal.add_points-requires
+add_points-requires g c =
+    let s = c.args.self.now in
+    let t = task_of g.C.Piece.Domain.maps (means g.C.Contractor) s in
+    let road = YieldsList-at c.into_iter-record-iterator.ensures.into_iter_gives (YieldsList-from_chain (YieldsList-from_slice c.as_slices.result.0.now (cc)) (YieldsList-from_slice c.as_slices.result.1.now (cc)) (cc) (cc)) in
+    let all = c.as_slices.result.0.now ++ c.as_slices.result.1.now in
+    let ys = c.loop-record.yielded in
+    let r = c.in-Some.record.now in
+    let turn = YieldsList-turn road ys _ c.loop-record.yielded_by c.next.result _ c.in-Some.record c.in-Some.is c.next.ensures.steps in
+    let whole = passed all (map (λ y. y.now) ys) (length ys) r (YieldsList-so_far road ys _ c.loop-record.yielded_by) turn.0 turn.1 in
+    let few = roll_fits g.met.C.Piece.Domain.lawful g.met.C.Contractor.sound s in
+    omega (arith, c.count.ensures, ap (λ q. points_at q r.class) c.loop-record.invariant, points_room t (map (λ y. y.now) ys) r (drop (length ys + 1) all) (2 ^ 64) (omega (arith, few, ap (λ rs. points_in (points_of t rs)) (whole ∙ c.as_slices.ensures))))
 
-pub loop-i-preserved : goal.loop-i-preserved
-loop-i-preserved g c =
-    let t = task_of g.C.Piece.Domain.maps (means g.C.Contractor.set g.C.Contractor.kept g.C.Contractor.dropped) c.args.self.now in
-    let rs = rolled c.args.self.now.store.roll in
-    let i = c.loop-i.i in
-    let q = c.at-record.result in
-    let e = drop_here rs i q (omega (arith, c.loop-i-test.true, rolled_length c.args.self.now.store.roll)) c.at-record.ensures in
-    subst (λ y. Counted t y (drop (i + 1) rs) rs) (sym (c.add_points.ensures ∙ ap (plus c.loop-i.points q.class) c.count.ensures))
-    (counted_more t c.loop-i.points q (drop (i + 1) rs) rs (subst (λ ys. Counted t c.loop-i.points ys rs) e c.loop-i.invariant))
+pub loop-record-preserved : goal.loop-record-preserved
+loop-record-preserved g c =
+    let t = task_of g.C.Piece.Domain.maps (means g.C.Contractor) c.args.self.now in
+    let ys = c.loop-record.yielded in
+    let r = c.in-Some.record in
+    c.add_points.ensures ∙ ap₂ (λ q n. plus q r.now.class n) c.loop-record.invariant c.count.ensures
+    ∙ plus_more t (map (λ y. y.now) ys) r.now
+    ∙ ap (points_of t) (sym (map-append (λ y. y.now) ys (r ∷ [])))
 
 pub returns : goal.returns
-returns g c h =
-    let t = task_of g.C.Piece.Domain.maps (means g.C.Contractor.set g.C.Contractor.kept g.C.Contractor.dropped) c.args.self.now in
-    let rs = rolled c.args.self.now.store.roll in
-    counted_all t c.loop-i.points rs (subst (λ ys. Counted t c.loop-i.points ys rs) (drop_all c.loop-i.i rs (omega (arith, c.loop-i-test.false, rolled_length c.args.self.now.store.roll))) c.loop-i.invariant) h
+returns g c =
+    let t = task_of g.C.Piece.Domain.maps (means g.C.Contractor) c.args.self.now in
+    let road = YieldsList-at c.into_iter-record-iterator.ensures.into_iter_gives (YieldsList-from_chain (YieldsList-from_slice c.as_slices.result.0.now (cc)) (YieldsList-from_slice c.as_slices.result.1.now (cc)) (cc) (cc)) in
+    c.loop-record.invariant
+    ∙ ap (points_of t) ((YieldsList-end road c.loop-record.yielded _ c.loop-record.yielded_by c.next.result _ c.in-None.is c.next.ensures.steps).0 ∙ c.as_slices.ensures)

@@ -1,9 +1,9 @@
-use Rattle.std.proofs.Common.{drop}
-use Rattle.sheet.specs.Rolls.{rolled}
-use Rattle.sheet.specs.Standing.{means, task_of}
-use Rattle.sheet.proofs.Counting.{Counted}
+use Rattle.std.proofs.Common.{◌≡◌, map}
+use Rattle.contractor.specs.Means.{means}
+use Rattle.paving.specs.Turns.{points_of}
+use Rattle.sheet.specs.Standing.{task_of}
 use Rattle.sheet.proofs.sheet.Sheet.points_on_roll.Given as goal
 
--- those left are still to count
-abbrev pub invariant-loop-i : goal.invariant-loop-i
-invariant-loop-i g l = Counted (task_of g.C.Piece.Domain.maps (means g.C.Contractor.set g.C.Contractor.kept g.C.Contractor.dropped) l.self) l.points (drop l.i (rolled l.self.store.roll)) (rolled l.self.store.roll)
+-- the points of the records that were passed
+abbrev pub invariant-loop-record : goal.invariant-loop-record
+invariant-loop-record g l = l.points ≡ points_of (task_of g.C.Piece.Domain.maps (means g.C.Contractor) l.self) (map (λ r. r.now) l.yielded)

@@ -1,10 +1,7 @@
-use Rattle.std.proofs.Common.{◌-◌, ◌≤◌}
-use Rattle.sheet.specs.Standing.{means}
+use Rattle.contractor.specs.Means.{means}
 use Rattle.sheet.proofs.Striding.{Strode}
 use Rattle.sheet.proofs.sheet.Sheet.run.Given as goal
 
+-- each turn of the loop before this one was an accepted step
 abbrev pub invariant-loop-accepted : goal.invariant-loop-accepted
-invariant-loop-accepted g l = (l.accepted ≤ l.most) × Strode g.C.Piece.Domain.maps (means g.C.Contractor.set g.C.Contractor.kept g.C.Contractor.dropped) l.initial.self l.accepted l.self
-
-abbrev pub decreases-loop-accepted : goal.decreases-loop-accepted
-decreases-loop-accepted g l = l.most - l.accepted
+invariant-loop-accepted g l = Strode g.C.Piece.Domain.maps (means g.C.Contractor) l.initial.self l.accepted l.self

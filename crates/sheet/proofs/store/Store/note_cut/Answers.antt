@@ -1,26 +1,42 @@
-use Rattle.std.proofs.Common.{◌++◌, arith, rules}
+use Rattle.std.proofs.Common.{[], ◌∷◌, ◌++◌, length, sym, ap, subst, arith, rules}
+use Rattle.std.proofs.lemmas.List.{length-append}
 use Rattle.std.specs.Option.{option_to_list}
 use Rattle.domain.specs.Maps.{listed}
 use Rattle.paving.specs.Steps.{entries}
 use Rattle.paving.specs.declared.classes.Class.TheVariants.{Inside, Outside, Undecided}
-use Rattle.sheet.proofs.Storing.{noted_append, noted_far}
+use Rattle.sheet.specs.Cuts.{cut_entries}
+use Rattle.sheet.specs.Stores.{Noted}
+use Rattle.sheet.proofs.Storing.{noted_none, noted_append, entries_length, cut_length, room_left}
 use Rattle.sheet.proofs.store.Store.note_cut.Goals as goal
-
-pub note_strips-requires : goal.note_strips-requires
-note_strips-requires g c = (search rules, (omega (arith, c.requires.0), omega (arith, c.requires.1)))
 
 pub note_strips-requires-2 : goal.note_strips-requires-2
 note_strips-requires-2 g c =
-    let f = noted_far c.args.self.now c.note_strips.new.self Outside (listed c.args.outside) c.note_strips.ensures in
-    (search rules, (omega (arith, c.requires.0, f.0), omega (arith, c.requires.1, f.1)))
+    let xs = listed c.args.cut.now.outside in
+    (search rules, room_left _ _ (entries Outside xs) (length (cut_entries c.args.cut.now)) _ c.note_strips.ensures (omega (arith, cut_length c.args.cut.now, entries_length Outside xs)) c.requires)
 
-pub note_some-requires : goal.note_some-requires
-note_some-requires g c =
-    let f = noted_far c.args.self.now c.note_strips.new.self Outside (listed c.args.outside) c.note_strips.ensures in
-    let h = noted_far c.note_strips.new.self c.note_strips-2.new.self Inside (listed c.args.inside) c.note_strips-2.ensures in
-    (search rules, (omega (arith, c.requires.0, f.0, h.0), omega (arith, c.requires.1, f.1, h.1)))
+pub note-requires : goal.note-requires
+note-requires g c =
+    let q = c.args.cut.now in
+    let es = entries Outside (listed q.outside) ++ entries Inside (listed q.inside) in (
+      search rules,
+      room_left _ _ es (length (cut_entries q)) 1 (noted_append _ _ _ (entries Outside (listed q.outside)) (entries Inside (listed q.inside)) c.note_strips.ensures c.note_strips-2.ensures)
+          (omega (arith, cut_length q, length-append (entries Outside (listed q.outside)) (entries Inside (listed q.inside)), entries_length Outside (listed q.outside), entries_length Inside (listed q.inside), ap (λ o. length (option_to_list o)) c.in-Some.is)) c.requires,
+    )
 
-pub returns : goal.returns
-returns g c =
-    noted_append _ _ _ (entries Outside (listed c.args.outside)) (entries Inside (listed c.args.inside) ++ entries Undecided (option_to_list c.args.undecided)) c.note_strips.ensures
-    (noted_append _ _ _ (entries Inside (listed c.args.inside)) (entries Undecided (option_to_list c.args.undecided)) c.note_strips-2.ensures c.note_some.ensures)
+pub returns-in-Some : goal.returns-in-Some
+returns-in-Some g c =
+    let q = c.args.cut.now in
+    let before = entries Outside (listed q.outside) in
+    let middle = entries Inside (listed q.inside) in
+    subst (λ o. Noted c.args.self.now (before ++ (middle ++ entries Undecided (option_to_list o))) c.note.new.self) (sym c.in-Some.is)
+    (noted_append _ _ _ before (middle ++ entries Undecided (c.in-Some.piece ∷ [])) c.note_strips.ensures
+    (noted_append _ _ _ middle (entries Undecided (c.in-Some.piece ∷ [])) c.note_strips-2.ensures c.note.ensures))
+
+pub returns-in_default : goal.returns-in_default
+returns-in_default g c =
+    let q = c.args.cut.now in
+    let before = entries Outside (listed q.outside) in
+    let middle = entries Inside (listed q.inside) in
+    subst (λ o. Noted c.args.self.now (before ++ (middle ++ entries Undecided (option_to_list o))) c.note_strips-2.new.self) (sym c.in_default.is)
+    (noted_append _ _ _ before (middle ++ []) c.note_strips.ensures
+    (noted_append _ _ _ middle [] c.note_strips-2.ensures (noted_none c.note_strips-2.new.self)))

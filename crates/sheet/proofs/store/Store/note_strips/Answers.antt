@@ -1,37 +1,25 @@
-use Rattle.std.proofs.Common.{◌++◌, arith, rules}
-use Rattle.std.specs.Option.{option_to_list}
-use Rattle.sheet.proofs.Storing.{noted_entries, noted_far, listed_length}
+use Rattle.std.proofs.Common.{[], ◌∷◌, length, ◌++◌, sym, refl, ap, ◌∙◌, subst, arith, rules}
+use Rattle.std.proofs.lemmas.List.{append-nil, append_assoc, length-append}
+use Rattle.domain.specs.Maps.{listed}
+use Rattle.paving.specs.Steps.{entries}
+use Rattle.sheet.specs.Stores.{Noted}
+use Rattle.sheet.proofs.Storing.{noted_entries, entries_length, room_left}
 use Rattle.sheet.proofs.store.Store.note_strips.Goals as goal
 
-pub note_some-requires : goal.note_some-requires
-note_some-requires g c =
-    let e = listed_length c.args.strips in
-    (search rules, (omega (arith, c.requires.0, e), omega (arith, c.requires.1, e)))
+pub note-requires : goal.note-requires
+note-requires g c =
+    let ys = c.loop-strip.yielded in (
+      search rules,
+      room_left _ _ (entries c.args.class ys) (length (listed c.args.strips)) 1 c.loop-strip.invariant.1
+          (omega (arith, entries_length c.args.class ys, ap length c.loop-strip.invariant.0, length-append ys (listed c.loop-strip.strip-iterator), ap length c.in-Some.ensures.steps.0)) c.requires,
+    )
 
-pub note_some-requires-2 : goal.note_some-requires-2
-note_some-requires-2 g c =
-    let e = listed_length c.args.strips in
-    let f = noted_far c.args.self.now c.note_some.new.self c.args.class (option_to_list c.args.strips.first) c.note_some.ensures in
-    (search rules, (omega (arith, c.requires.0, e, f.0), omega (arith, c.requires.1, e, f.1)))
-
-pub note_some-requires-3 : goal.note_some-requires-3
-note_some-requires-3 g c =
-    let e = listed_length c.args.strips in
-    let f = noted_far c.args.self.now c.note_some.new.self c.args.class (option_to_list c.args.strips.first) c.note_some.ensures in
-    let h = noted_far c.note_some.new.self c.note_some-2.new.self c.args.class (option_to_list c.args.strips.second) c.note_some-2.ensures in
-    (search rules, (omega (arith, c.requires.0, e, f.0, h.0), omega (arith, c.requires.1, e, f.1, h.1)))
-
-pub note_some-requires-4 : goal.note_some-requires-4
-note_some-requires-4 g c =
-    let e = listed_length c.args.strips in
-    let f = noted_far c.args.self.now c.note_some.new.self c.args.class (option_to_list c.args.strips.first) c.note_some.ensures in
-    let h = noted_far c.note_some.new.self c.note_some-2.new.self c.args.class (option_to_list c.args.strips.second) c.note_some-2.ensures in
-    let k = noted_far c.note_some-2.new.self c.note_some-3.new.self c.args.class (option_to_list c.args.strips.third) c.note_some-3.ensures in
-    (search rules, (omega (arith, c.requires.0, e, f.0, h.0, k.0), omega (arith, c.requires.1, e, f.1, h.1, k.1)))
+pub loop-strip-preserved : goal.loop-strip-preserved
+loop-strip-preserved g c =
+    let ys = c.loop-strip.yielded in
+    (c.loop-strip.invariant.0 ∙ ap (λ xs. ys ++ xs) c.in-Some.ensures.steps.0 ∙ sym (append_assoc ys (c.in-Some.strip ∷ []) (listed c.next.new.self)), noted_entries _ _ _ c.args.class ys (c.in-Some.strip ∷ []) c.loop-strip.invariant.1 c.note.ensures)
 
 pub returns : goal.returns
 returns g c =
-    let s = c.args.strips in
-    noted_entries _ _ _ c.args.class (option_to_list s.first) (option_to_list s.second ++ (option_to_list s.third ++ option_to_list s.fourth)) c.note_some.ensures
-    (noted_entries _ _ _ c.args.class (option_to_list s.second) (option_to_list s.third ++ option_to_list s.fourth) c.note_some-2.ensures
-    (noted_entries _ _ _ c.args.class (option_to_list s.third) (option_to_list s.fourth) c.note_some-3.ensures c.note_some-4.ensures))
+    let ys = c.loop-strip.yielded in
+    subst (λ xs. Noted c.args.self.now (entries c.args.class xs) c.loop-strip.self) (sym (c.loop-strip.invariant.0 ∙ ap (λ xs. ys ++ xs) (c.in-None.ensures.steps.1 refl) ∙ append-nil ys)) c.loop-strip.invariant.1

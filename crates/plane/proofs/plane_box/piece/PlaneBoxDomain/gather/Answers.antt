@@ -1,18 +1,19 @@
-use Rattle.plane.proofs.Numbered.{both_short, gathered_from, crossing_from}
+use Rattle.std.proofs.Common.{◌<◌, ◌∙◌, ap₂, arith}
+use Rattle.plane.specs.Boxes.{crossing}
+use Rattle.plane.specs.Made.{crossed_by}
+use Rattle.plane.proofs.Numbered.{gathered_from, crossing_from}
 use Rattle.plane.proofs.plane_box.piece.PlaneBoxDomain.gather.Goals as goal
-
-pub crossing-requires : goal.crossing-requires
-crossing-requires c =
-    let m = c.can_gather.ensures.0 c.if-not-can_gather.false in
-    let s = both_short c.args.self.now c.args.members.now c.args.depth m.0 c.deep_columns.result c.deep_rows.result c.deep_columns.ensures c.deep_rows.ensures m.1 in
-    record { columns_short = s.0; rows_short = s.1 }
 
 pub returns : goal.returns
 returns c =
     let x = c.args.self.now in
     let ns = c.args.members.now in
-    let m = c.can_gather.ensures.0 c.if-not-can_gather.false in
+    let k : 0 < c.args.depth = omega arith in
+    let m = c.has_members.ensures.0 c.if-not-has_members.false in
+    let s = c.deep_span.ensures in
+    let t = c.deep_span-2.ensures in
+    let e = c.crossing.ensures ∙ ap₂ crossing s.2 t.2 ∙ crossed_by s.0 t.0 in
     record {
-      value = (m, gathered_from x ns c.args.depth m.0 c.deep_columns.result c.deep_rows.result c.deep_columns.ensures c.deep_rows.ensures m.1 c.crossing.result c.crossing.ensures);
-      runs = crossing_from x ns c.args.depth m.0 c.deep_columns.result c.deep_rows.result c.deep_columns.ensures c.deep_rows.ensures m.1 c.crossing.result c.crossing.ensures;
+      value = ((k, m), gathered_from x ns c.args.depth k s.0 t.0 s.1 t.1 m c.crossing.result e);
+      runs = crossing_from x ns c.args.depth k s.0 t.0 s.1 t.1 m c.crossing.result e;
     }

@@ -8,9 +8,10 @@ use Rattle.plane.proofs.plane_box.piece.PlaneBoxDomain.span.Goals as goal
 pub returns : goal.returns
 returns c =
     let x = c.args.self.now in
-    let f = c.holds_both.ensures.0 c.if-not-holds_both.false in
+    let v = c.takes.ensures.0 c.if-not-takes.false in
+    let w = c.takes-else-not-takes.ensures.0 c.if-not-takes-2.false in
     let e = c.enclosing.ensures x in
     record {
-      value = (f, e);
-      smallest = (f, subst (Smallest plane x (HeldByEither c.args.one c.args.other)) (sym e) (smallest x c.args.one c.args.other f.0 f.1));
+      value = ((v, w), e);
+      smallest = ((v, w), subst (Smallest plane x (HeldByEither c.args.one c.args.other)) (sym e) (smallest x c.args.one c.args.other v w));
     }

@@ -1,0 +1,102 @@
+// The tests of a column of a cone, by a span of rows. The rows are the columns of the cone turned over.
+ghost use Rattle.std.specs.Prelude.{◌≡◌, min, not, ◌&&◌, pos, ◌-ℤ◌, ◌*ℤ◌, int_le};
+ghost use Rattle.plane.specs.Spans.{stretch};
+ghost use Rattle.leaves.specs.Cones.{offset as offset_of, keeps, sheds, most, fewest};
+ghost use Rattle.leaves.specs.Judged.{SameOnPlane};
+
+use crate::cone::Cone;
+use crate::cone::direction::Direction;
+use crate::offset::{Offset, Product};
+use crate::opposite::Opposite;
+use plane::span::Span;
+use scan::live::Live;
+
+// Whether a column is live for keep: `first` and `second` are the extremes of the products of u and of v over the rows.
+#[derive(Clone, Copy)]
+pub(crate) struct Slopes {
+    cone: Cone,
+    first: Product,
+    second: Product,
+}
+
+impl Slopes {
+    // The first product sum.
+    #[tactic(auto, using(std::proofs::lemmas::Int::wraps))]
+    fn ahead(&self, index: u32) -> i32
+        ensures { result ≡ self.now.first.value -ℤ self.now.cone.u.y *ℤ offset_of self.now.cone.beacon.x (min index 4095) }
+    {
+        self.first
+            .minus(Offset::of(self.cone.beacon.x, index).times(self.cone.u.y))
+    }
+
+    // The second.
+    #[tactic(auto, using(std::proofs::lemmas::Int::wraps))]
+    fn behind(&self, index: u32) -> i32
+        ensures { result ≡ self.now.cone.v.y *ℤ offset_of self.now.cone.beacon.x (min index 4095) -ℤ self.now.second.value }
+    {
+        Offset::of(self.cone.beacon.x, index)
+            .times(self.cone.v.y)
+            .minus(self.second)
+    }
+}
+
+impl Live for Slopes {
+    ghost live = { λ t i. int_le (pos 0) (t.first.value -ℤ t.cone.u.y *ℤ offset_of t.cone.beacon.x (min i 4095)) && int_le (pos 0) (t.cone.v.y *ℤ offset_of t.cone.beacon.x (min i 4095) -ℤ t.second.value) };
+
+    fn is_live(&self, index: u32) -> bool {
+        self.ahead(index) >= 0 && self.behind(index) >= 0
+    }
+}
+
+impl Cone {
+    // The test for keep: by the greatest value of each product sum.
+    pub(crate) fn kept_by(self, rows: Span) -> Slopes
+        ensures { SameOnPlane (⟦<Slopes as Live>⟧.live result) (keeps self.u.x self.u.y self.v.y self.v.x self.beacon.x self.beacon.y (stretch rows)) }
+    {
+        Slopes {
+            cone: self,
+            first: greatest(self.u, self.beacon.y, rows),
+            second: least(self.v, self.beacon.y, rows),
+        }
+    }
+
+    // The test for shed: by the least value of each, a column is live where it would not be kept.
+    pub(crate) fn shed_by(self, rows: Span) -> Opposite<Slopes>
+        ensures { SameOnPlane (λ i. not (⟦<Slopes as Live>⟧.live result.0 i)) (sheds self.u.x self.u.y self.v.y self.v.x self.beacon.x self.beacon.y (stretch rows)) }
+    {
+        Opposite(Slopes {
+            cone: self,
+            first: least(self.u, self.beacon.y, rows),
+            second: greatest(self.v, self.beacon.y, rows),
+        })
+    }
+}
+
+// The products of a direction's columns and the offsets of both ends of a span.
+fn products(direction: Direction, beacon: i16, span: Span) -> (Product, Product)
+    ensures low { result.0.value ≡ direction.x *ℤ offset_of beacon span.low }
+    ensures high { result.1.value ≡ direction.x *ℤ offset_of beacon span.high }
+{
+    let (low, high) = Offset::of_ends(beacon, span);
+    (low.times(direction.x), high.times(direction.x))
+}
+
+// The greatest product over a span. A product rises or falls all along, so an end has it.
+fn greatest(direction: Direction, beacon: i16, span: Span) -> Product
+    ensures { result.value ≡ most direction.x beacon (stretch span) }
+{
+    let (low, high) = products(direction, beacon, span);
+    Product {
+        value: low.value.max(high.value),
+    }
+}
+
+// The least. To pass max or min to one text for both would be no shorter.
+fn least(direction: Direction, beacon: i16, span: Span) -> Product
+    ensures { result.value ≡ fewest direction.x beacon (stretch span) }
+{
+    let (low, high) = products(direction, beacon, span);
+    Product {
+        value: low.value.min(high.value),
+    }
+}

@@ -1,0 +1,80 @@
+// The tests of a column of a ring, by a span of rows. The rows are the columns of the ring turned over.
+ghost use Rattle.std.specs.Prelude.{◌≡◌, ◌+◌, min, not, ◌&&◌, nat_le};
+ghost use Rattle.leaves.specs.Judged.{SameOnPlane};
+ghost use Rattle.plane.specs.Spans.{stretch};
+ghost use Rattle.leaves.specs.Rings.{square as square_of, distance as distance_of, nearest as nearest_of, farthest as farthest_of, keeps, sheds};
+
+use crate::offset::{Offset, Square};
+use crate::opposite::Opposite;
+use crate::ring::Ring;
+use plane::span::Span;
+use scan::live::Live;
+use scan::stretch::Stretch;
+
+// Whether a column is live for keep: `near` and `far` are the squares of the least and the greatest distance across.
+#[derive(Clone, Copy)]
+pub(crate) struct Reach {
+    ring: Ring,
+    near: Square,
+    far: Square,
+}
+
+impl Live for Reach {
+    ghost live = { λ t i. nat_le (square_of (distance_of t.ring.beacon.x (min i 4095)) + t.near.value) (square_of t.ring.outer) && nat_le (square_of t.ring.inner) (square_of (distance_of t.ring.beacon.x (min i 4095)) + t.far.value) };
+
+    fn is_live(&self, index: u32) -> bool {
+        let along = Offset::of(self.ring.beacon.x, index).square();
+        along.plus(self.near) <= square(self.ring.outer)
+            && square(self.ring.inner) <= along.plus(self.far)
+    }
+}
+
+impl Ring {
+    // The test for keep.
+    pub(crate) fn kept_by(self, rows: Span) -> Reach
+        ensures { SameOnPlane (⟦<Reach as Live>⟧.live result) (keeps self.inner self.outer self.beacon.x self.beacon.y (stretch rows)) }
+    {
+        Reach {
+            ring: self,
+            near: nearest(self.beacon.y, rows),
+            far: farthest(self.beacon.y, rows),
+        }
+    }
+
+    // The test for shed: a column all of whose points are of the ring is not live.
+    pub(crate) fn shed_by(self, rows: Span) -> Opposite<Reach>
+        ensures { SameOnPlane (λ i. not (⟦<Reach as Live>⟧.live result.0 i)) (sheds self.inner self.outer self.beacon.x self.beacon.y (stretch rows)) }
+    {
+        Opposite(Reach {
+            ring: self,
+            near: farthest(self.beacon.y, rows),
+            far: nearest(self.beacon.y, rows),
+        })
+    }
+}
+
+// The square of the least distance over a span: that of the index nearest to the beacon.
+fn nearest(beacon: i16, span: Span) -> Square
+    ensures { result.value ≡ square_of (nearest_of beacon (stretch span)) }
+{
+    let Stretch { low, high } = Stretch::from(span);
+    let at = i32::from(beacon).clamp(low as i32, high as i32);
+    Offset::of(beacon, at as u32).square()
+}
+
+// The square of the greatest: that of one of its ends.
+fn farthest(beacon: i16, span: Span) -> Square
+    ensures { result.value ≡ square_of (farthest_of beacon (stretch span)) }
+{
+    let (low, high) = Offset::of_ends(beacon, span);
+    Square {
+        value: low.square().value.max(high.square().value),
+    }
+}
+
+// The square of a radius.
+fn square(radius: u16) -> u32
+    ensures { result ≡ square_of radius }
+{
+    u32::from(radius) * u32::from(radius)
+}

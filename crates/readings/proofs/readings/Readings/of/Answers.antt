@@ -1,7 +1,0 @@
-use Rattle.std.proofs.Common.{refl}
-use Rattle.readings.specs.Requests.{entered}
-use Rattle.readings.proofs.readings.Readings.of.Goals as goal
-
-pub returns : goal.returns
-unfolding entered
-returns g c = (refl, refl)
