@@ -55,10 +55,7 @@ impl Domain for Rail {
     }
 
     fn size(&self) -> u32 {
-        match self {
-            Rail::Both => 2,
-            _ => 1,
-        }
+        1 + self.height()
     }
 
     fn number(&self) -> u64 {
@@ -126,9 +123,6 @@ impl Domain for Rail {
     }
 
     fn height(&self) -> u32 {
-        match self {
-            Rail::Both => 1,
-            _ => 0,
-        }
+        u32::from(*self == Rail::Both)
     }
 }

@@ -1,5 +1,5 @@
 -- A cone: the points between two directions from a beacon, counterclockwise from the first to the second.
-use Rattle.std.specs.Prelude.{◌≡◌, ℕ, ◌/◌, ◌%◌, Bool, ◌&&◌, ◌||◌, ◌⊎◌, ℤ, pos, negsuc, ◌-ℤ◌, ◌*ℤ◌, ◌≤ℤ◌, ◌<ℤ◌, Option, Result, MatchResult, int_le, int_lt}
+use Rattle.std.specs.Prelude.{◌≡◌, ℕ, ◌/◌, ◌%◌, Bool, ◌&&◌, ◌||◌, ◌⊎◌, ℤ, pos, ◌-ℤ◌, ◌*ℤ◌, ◌<ℤ◌, Option, Result, MatchResult, int_le, int_lt}
 use Rattle.std.specs.Int.{int_max, int_min}
 use Rattle.domain.specs.Refusals.{code}
 use Rattle.domain.specs.declared.refusal.Refusal.{Refusal}
@@ -7,7 +7,7 @@ use Rattle.scan.specs.declared.stretch.Stretch.{Stretch}
 use Rattle.plane.specs.declared.plane_box.PlaneBox.{PlaneBox}
 use Rattle.leaves.specs.Extremes.{least_signed, greatest_signed}
 use Rattle.leaves.specs.Judged.{Test, judged}
-use Rattle.leaves.specs.Rings.{IsBeacon}
+use Rattle.leaves.specs.Rings.{AreWithin, IsBeacon}
 use Rattle.leaves.specs.declared.cone.Cone.{Cone}
 
 -- how far column or row i lies from a beacon's, with its sign: i − b
@@ -64,7 +64,7 @@ cone_dropped c x =
 
 -- the numbers that make a cone: a beacon and two directions in their ranges, and ux·vy − uy·vx above 0
 abbrev pub IsDirection : ℤ → ℤ → Type 0
-IsDirection x y = (negsuc 2047 ≤ℤ x) × (x ≤ℤ pos 2047) × (negsuc 2047 ≤ℤ y) × (y ≤ℤ pos 2047)
+IsDirection x y = AreWithin 2047 x y
 
 abbrev pub AreDirections : (ux uy vx vy : ℤ) → Type 0
 AreDirections ux uy vx vy = IsDirection ux uy × IsDirection vx vy

@@ -49,9 +49,13 @@ ring_kept r x = judged (keeps r.inner r.outer r.beacon.x r.beacon.y) (keeps r.in
 abbrev pub ring_dropped : Ring → PlaneBox → Option PlaneBox
 ring_dropped r x = judged (sheds r.inner r.outer r.beacon.x r.beacon.y) (sheds r.inner r.outer r.beacon.y r.beacon.x) x
 
+-- both numbers are from −m − 1 to m
+abbrev pub AreWithin : ℕ → ℤ → ℤ → Type 0
+AreWithin m x y = (negsuc m ≤ℤ x) × (x ≤ℤ pos m) × (negsuc m ≤ℤ y) × (y ≤ℤ pos m)
+
 -- the numbers that make a ring: a beacon in its range, and 0 ≤ a ≤ b ≤ 32,767
 abbrev pub IsBeacon : ℤ → ℤ → Type 0
-IsBeacon bx by = (negsuc 16383 ≤ℤ bx) × (bx ≤ℤ pos 16383) × (negsuc 16383 ≤ℤ by) × (by ≤ℤ pos 16383)
+IsBeacon bx by = AreWithin 16383 bx by
 
 abbrev pub AreRadii : ℤ → ℤ → Type 0
 AreRadii a b = (pos 0 ≤ℤ a) × (a ≤ℤ b) × (b ≤ℤ pos 32767)

@@ -8,10 +8,9 @@ use Rattle.plane.specs.Boxes.{box_of}
 use Rattle.leaves.specs.Arcs.{kept, dropped}
 use Rattle.leaves.specs.Cones.{cone_kept, cone_dropped}
 use Rattle.leaves.specs.Rings.{ring_kept, ring_dropped}
-use Rattle.leaves.specs.declared.beacon.Beacon.{Beacon}
 use Rattle.leaves.specs.declared.cone.Cone.{Cone}
-use Rattle.leaves.specs.declared.cone.direction.Direction.{Direction}
 use Rattle.leaves.specs.declared.ring.Ring.{Ring}
+use Rattle.leaves.specs.declared.vector.Vector.{Vector}
 
 -- what a map makes of a piece, if it is one
 abbrev pub of : {P : Type 0} → (P → Option P) → Option P → Option P
@@ -24,8 +23,8 @@ arc_map f None x = None
 arc_map f (Some a) x = of (f a) x
 
 -- the beacon 0,0
-abbrev pub corner : Beacon
-corner = record { x = pos 0; y = pos 0; west = le_z_yes tt; east = le_z_yes tt; south = le_z_yes tt; north = le_z_yes tt }
+abbrev pub corner : Vector 16383
+corner = record { x = pos 0; y = pos 0; x_least = le_z_yes tt; x_most = le_z_yes tt; y_least = le_z_yes tt; y_most = le_z_yes tt }
 
 -- the ring 0,0,a,b
 abbrev pub ring_around : (a b : ℕ) → a ≤ b → b ≤ 32767 → Ring
@@ -38,10 +37,10 @@ ring_around a b p q = record {
 }
 
 -- the directions 1,0 and 1,1
-abbrev pub level : Direction
+abbrev pub level : Vector 2047
 level = record { x = pos 1; y = pos 0; x_least = le_z_yes tt; x_most = le_z_yes tt; y_least = le_z_yes tt; y_most = le_z_yes tt }
 
-abbrev pub slanting : Direction
+abbrev pub slanting : Vector 2047
 slanting = record { x = pos 1; y = pos 1; x_least = le_z_yes tt; x_most = le_z_yes tt; y_least = le_z_yes tt; y_most = le_z_yes tt }
 
 -- the cone 0,0,1,0,1,1

@@ -1,6 +1,7 @@
 // An arc as a contractor of the dial: its set is the points that it holds.
 ghost use Rattle.std.specs.Prelude.{◌≡◌, ◌<◌};
-ghost use Rattle.dial.specs.Arcs.{holds as holds_of, point as point_of};
+ghost use Rattle.domain.specs.Refusals.{Given};
+ghost use Rattle.dial.specs.Arcs.{AreArc, holds as holds_of, point as point_of};
 ghost use Rattle.leaves.specs.Arcs.{held, swept as swept_by, kept as kept_by, dropped as dropped_by};
 ghost use Rattle.leaves.specs.Sweeps.{arc_sound};
 
@@ -8,9 +9,10 @@ use crate::opposite::Opposite;
 use contractor::contractor::Contractor;
 use dial::arc::Arc;
 use domain::domain::Domain;
+use domain::refusal::Refusal;
 use scan::live::{Live, live_run};
 
-// The point that lies `index` places past `start`, going round.
+// The point that lies `index` places past `start`, going round. The first remainder keeps the sum within 32 bits.
 #[tactic(auto, unfolding(dial::specs::Arcs::point))]
 fn point_past(start: u16, index: u32) -> u32
     ensures { (result ≡ point_of start index) × (result < 3600) }
@@ -59,6 +61,13 @@ impl From<Arc> for ArcReading {
 }
 
 impl ArcReading {
+    // The arc of `len` points from `start` on, as a reading; refused with 1 where these are no arc's.
+    pub fn new(start: u16, len: u16) -> Result<ArcReading, Refusal>
+        ensures { Given result 1 (AreArc start len) (λ r. (r.arc.start ≡ start) × (r.arc.len ≡ len)) }
+    {
+        Arc::new(start, len).map(ArcReading::from)
+    }
+
     // The test of the places of a piece: whether the point there is of the reading.
     fn held(&self, piece: &Arc) -> Held
         ensures { (result.arc ≡ self.now.arc) × (result.piece ≡ piece.now) }

@@ -1,13 +1,11 @@
 // A cone: the points between the directions u and v from a beacon, counterclockwise from u to v.
 ghost use Rattle.std.specs.Prelude.{pos, ◌-ℤ◌, ◌*ℤ◌, ◌<ℤ◌};
 
-mod direction;
 pub mod made;
 pub mod reading;
 mod slopes;
 
-use crate::beacon::Beacon;
-use crate::cone::direction::Direction;
+use crate::vector::{Beacon, Direction};
 
 #[derive(Clone, Copy)]
 pub struct Cone {

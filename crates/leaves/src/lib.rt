@@ -2,7 +2,6 @@
 #![tactic(auto)]
 
 pub mod arc;
-mod beacon;
 mod bounds;
 pub mod cone;
 mod judged;
@@ -10,3 +9,4 @@ mod offset;
 mod opposite;
 pub mod plane_reading;
 pub mod ring;
+mod vector;

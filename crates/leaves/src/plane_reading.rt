@@ -32,6 +32,7 @@ impl From<Cone> for PlaneReading {
     }
 }
 
+// Each of the two calls is one match. One text for both would hand out a `dyn`, which `rt ci` refuses, or take closures.
 impl Contractor for PlaneReading {
     type Piece = PlaneBox;
 

@@ -5,7 +5,7 @@ pub mod made;
 mod reach;
 pub mod reading;
 
-use crate::beacon::Beacon;
+use crate::vector::Beacon;
 
 #[derive(Clone, Copy)]
 pub struct Ring {

@@ -24,7 +24,7 @@ pub fn numbers<const N: usize>(text: &[u8]) -> Option<[i32; N]>
         return text.is_empty().then_some(numbers);
     }
     let mut rest = text;
-    // By index: of places that are written through an iterator a proof knows nothing.
+    // By index: of what is written through an iterator over a part of the array a proof knows nothing afterwards.
     for i in 0..N - 1 {
         (numbers[i], rest) = first_number(rest)?;
     }

@@ -28,7 +28,7 @@ impl<P: Panel + Drop, Q: Panel<Piece = P::Piece> + Drop> Joined<P, Q> {
 }
 
 // A number below the first panel's count is a member of the first; the others count on from there. Each of the two
-// calls is one such choice, and a text for both would only hide it.
+// calls is one such choice, of two arms; one text for both would take the four inner calls as closures.
 impl<P: Panel, Q: Panel<Piece = P::Piece>> Panel for Joined<P, Q> {
     type Piece = P::Piece;
 

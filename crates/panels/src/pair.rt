@@ -22,7 +22,8 @@ impl<A, B> Pair<A, B> {
     }
 }
 
-// Each of the two calls is one match over the members' numbers, and a text for both would need a second.
+// Each of the two calls is one match over the members' numbers. One text for both would take the inner calls as closures,
+// and match just so.
 impl<A: Contractor, B: Contractor<Piece = A::Piece>> Panel for Pair<A, B> {
     type Piece = A::Piece;
 

@@ -23,7 +23,8 @@ impl Ran {
     }
 }
 
-// A refusal is one of the answers, so that a list of turns has one list of answers.
+// A refusal is an answer like the others, and no error around them: the rules give each turn its answer, and refused turns
+// are among them.
 #[derive(Clone, Copy, Debug, PartialEq, Eq)]
 pub enum Answer<P> {
     // How many records were made.

@@ -37,7 +37,7 @@ fn main(rt: HostRuntime) -> anyhow::Result<()> {
 }
 
 fn run(rt: &impl Print) -> anyhow::Result<()> {
-    let mut memory = [bearing(0, 1)?; 3];
+    let mut memory = [ArcReading::new(0, 1)?; 3];
     let list = entered(&mut memory, [10, 12, 100])?;
     let mut sheet = Sheet::open(Relaxed::new(list, 1)?, Arc::new(0, 3600)?, Grain::new(1)?);
     for turn in TURNS {
@@ -48,10 +48,6 @@ fn run(rt: &impl Print) -> anyhow::Result<()> {
     again(rt)
 }
 
-fn bearing(start: u16, len: u16) -> Result<ArcReading, Refusal> {
-    Arc::new(start, len).map(ArcReading::from)
-}
-
 // Three arcs of five points, entered in this order and sealed.
 fn entered<'a>(
     memory: &'a mut [ArcReading],
@@ -59,14 +55,14 @@ fn entered<'a>(
 ) -> Result<ReadingList<'a, ArcReading>, Refusal> {
     let mut draft = Draft::new(memory);
     for start in starts {
-        draft.enter(bearing(start, 5)?)?;
+        draft.enter(ArcReading::new(start, 5)?)?;
     }
     Ok(draft.seal())
 }
 
 // The same turns over the readings in two orders.
 fn again(rt: &impl Print) -> anyhow::Result<()> {
-    let blank = bearing(0, 1)?;
+    let blank = ArcReading::new(0, 1)?;
     let mut first = [blank; 3];
     let mut second = [blank; 3];
     let one = Relaxed::new(entered(&mut first, [10, 12, 100])?, 1)?;

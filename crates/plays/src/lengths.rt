@@ -1,4 +1,4 @@
-// The refusal of turns that have no place each for its answer.
+// What is told where the lists of turns and of answers differ in length.
 ghost use Rattle.std.specs.Prelude.{Some, codes};
 
 use std::error::Error;

@@ -25,6 +25,7 @@ pub fn play<C: Contractor>(
     if turns.len() != answers.len() {
         return (sheet, Err(LengthsDiffer));
     }
+    // The turn by its place: of what is written through a zip of both lists a proof knows nothing afterwards.
     for (i, answer) in answers.iter_mut().enumerate() {
         *answer = Some(sheet.turn(turns[i]));
     }

@@ -13,7 +13,7 @@ use Rattle.readings.specs.Sorts.{cone_numbers, IsRing, IsCone, RingValue, ConeVa
 
 -- a ring's numbers are in their ranges
 ring_beacon : (r : Ring) (bx by : ℤ) → bx ≡ r.beacon.x → by ≡ r.beacon.y → IsBeacon bx by
-ring_beacon r bx by e f = subst (λ (x : ℤ). IsBeacon x by) (sym e) (subst (λ (y : ℤ). IsBeacon r.beacon.x y) (sym f) (r.beacon.west, r.beacon.east, r.beacon.south, r.beacon.north))
+ring_beacon r bx by e f = subst (λ (x : ℤ). IsBeacon x by) (sym e) (subst (λ (y : ℤ). IsBeacon r.beacon.x y) (sym f) (r.beacon.x_least, r.beacon.x_most, r.beacon.y_least, r.beacon.y_most))
 
 ring_radii : (r : Ring) (a b : ℤ) → a ≡ pos r.inner → b ≡ pos r.outer → AreRadii a b
 ring_radii r a b e f =
@@ -54,7 +54,7 @@ cone_range c bx by ux uy vx vy e =
     let v : vy ≡ c.v.y = cc in
     rw (p, q, s, t, u, v) (
       record {
-        beacon = (c.beacon.west, c.beacon.east, c.beacon.south, c.beacon.north);
+        beacon = (c.beacon.x_least, c.beacon.x_most, c.beacon.y_least, c.beacon.y_most);
         directions = ((c.u.x_least, c.u.x_most, c.u.y_least, c.u.y_most), (c.v.x_least, c.v.x_most, c.v.y_least, c.v.y_most));
       },
       c.opens,

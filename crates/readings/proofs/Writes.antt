@@ -198,8 +198,8 @@ ring_count (OfCone c) g = absurd g
 
 ring_fits : (p : PlaneReading) → RingLike p → All (SFits w32) (reading_numbers p)
 ring_fits (OfRing r) g = All-from_recursion (SFits w32) (ring_numbers r) (
-  small_signed r.beacon.x r.beacon.west r.beacon.east,
-  (small_signed r.beacon.y r.beacon.south r.beacon.north, (small_natural r.inner (omega (arith, r.ordered, r.most)), (small_natural r.outer (omega (arith, r.most)), tt))),
+  small_signed r.beacon.x r.beacon.x_least r.beacon.x_most,
+  (small_signed r.beacon.y r.beacon.y_least r.beacon.y_most, (small_natural r.inner (omega (arith, r.ordered, r.most)), (small_natural r.outer (omega (arith, r.most)), tt))),
 )
 ring_fits (OfCone c) g = absurd g
 
@@ -245,9 +245,9 @@ cone_count (OfCone c) g = refl
 cone_fits : (p : PlaneReading) → ConeLike p → All (SFits w32) (reading_numbers p)
 cone_fits (OfRing r) g = absurd g
 cone_fits (OfCone c) g = All-from_recursion (SFits w32) (cone_numbers c) (
-  small_signed c.beacon.x c.beacon.west c.beacon.east,
+  small_signed c.beacon.x c.beacon.x_least c.beacon.x_most,
   (
-    small_signed c.beacon.y c.beacon.south c.beacon.north,
+    small_signed c.beacon.y c.beacon.y_least c.beacon.y_most,
     (
       smaller_signed c.u.x c.u.x_least c.u.x_most,
       (smaller_signed c.u.y c.u.y_least c.u.y_most, (smaller_signed c.v.x c.v.x_least c.v.x_most, (smaller_signed c.v.y c.v.y_least c.v.y_most, tt))),

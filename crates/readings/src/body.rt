@@ -34,7 +34,8 @@ fn end_line<R>(line: Line<'_>, count: u16) -> Result<Option<R>, Refusal>
     end_value(line.value(b"end=")?, count)
 }
 
-// What a reading comes to after `count` others: a seventeenth keeps the refusals below that of a full draft, and its key's.
+// What a reading comes to after `count` others. A seventeenth is refused for its own sake where it does not fit the sheet
+// or its key is another, else since there are sixteen.
 fn enter<R: Copy>(judged: Result<R, Refusal>, count: u16) -> Result<Option<R>, Refusal>
     ensures { numbered result ≡ entering count (numbered judged) }
 {

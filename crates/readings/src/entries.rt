@@ -48,9 +48,7 @@ impl Entry for PlaneReading {
 fn bearing_value(value: &[u8]) -> Result<ArcReading, Refusal>
     ensures { BearingValue value.now (numbered result) }
 {
-    Ok(ArcReading {
-        arc: arc_value(value)?,
-    })
+    Ok(ArcReading::from(arc_value(value)?))
 }
 
 impl Entry for ArcReading {

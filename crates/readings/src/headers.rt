@@ -21,7 +21,8 @@ fn sheet_value(value: &[u8]) -> Result<Kind, Refusal>
     Err(Refusal::Malformed)
 }
 
-// A function for each key: one for all would take the value's reader as a closure, and its clause would speak of calls.
+// Each key of a file has such a function of one line: a text for all of them would take the reader of the value as a
+// closure, and be longer than they are.
 // Refused with 15 for another key, with 16 for another name.
 pub(crate) fn sheet_line(line: Line<'_>) -> Result<Kind, Refusal>
     ensures { Judges SheetLine line.entry result }

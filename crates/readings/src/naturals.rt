@@ -7,7 +7,7 @@ use domain::refusal::Refusal;
 use numerals::values::numbers;
 
 // The N numbers of a value, as numbers of 16 bits. Refused with 16 for what is not N numbers, with 1 where one of them
-// is not from 0 to 65535. So many have to fit in memory.
+// is not from 0 to 65535. The bound on N is that of an array's size in memory.
 pub(crate) fn naturals<const N: usize>(value: &[u8]) -> Result<[u16; N], Refusal>
     requires { N < 2 ^ 32 }
     ensures { Numbers N Naturals value.now (numbered result) }

@@ -1,5 +1,6 @@
-// Readings one after another.
-ghost use Rattle.std.specs.Prelude.{◌≡◌, ◌+◌, ◌<◌, [], ◌∷◌, ◌++◌};
+// Readings one after another. What `add` shares with the push of a sheet's pile is two lines: one type for both would
+// have to refuse where it is full, and each use to unwrap.
+ghost use Rattle.std.specs.Prelude.{◌≡◌, ◌+◌, ◌<◌, [], ◌∷◌, ◌++◌, length};
 ghost use Rattle.readings.specs.Requests.{entered};
 
 use crate::readings::Readings;
@@ -25,7 +26,7 @@ impl<R: Copy> Readings<R> {
 
     // The readings, in the order of the file.
     pub fn all(&self) -> &[R]
-        ensures { result.now ≡ entered self.now }
+        ensures { (result.now ≡ entered self.now) × (length result.now ≡ self.now.len) }
     {
         &self.items[..self.len]
     }

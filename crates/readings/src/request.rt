@@ -1,4 +1,6 @@
-// What a readings file asks for: a paving of a start, at a grain, by readings of which so many may be wrong.
+// What a readings file asks for: a paving of a start, at a grain, by readings of which some may be wrong, but not all.
+ghost use Rattle.std.specs.Prelude.{◌<◌};
+
 use crate::readings::Readings;
 use dial::arc::Arc;
 use leaves::arc::ArcReading;
@@ -12,6 +14,7 @@ pub struct Request<P, R> {
     pub grain: Grain,
     pub start: P,
     pub readings: Readings<R>,
+    ghost believed: { liars < readings.len },
 }
 
 #[derive(Drop)]

@@ -13,7 +13,7 @@ pub(crate) fn ring_value(value: &[u8]) -> Result<PlaneReading, Refusal>
     ensures { Numbers 4 RingValue value.now (numbered result) }
 {
     let [bx, by, a, b] = numbers::<4>(value).ok_or(Refusal::Malformed)?;
-    Ok(PlaneReading::Ring(Ring::new(bx, by, a, b)?))
+    Ok(PlaneReading::from(Ring::new(bx, by, a, b)?))
 }
 
 // Refused with 16 for what is not six numbers, with 3 and 5 for numbers of no cone.
@@ -21,5 +21,5 @@ pub(crate) fn cone_value(value: &[u8]) -> Result<PlaneReading, Refusal>
     ensures { Numbers 6 ConeValue value.now (numbered result) }
 {
     let [bx, by, ux, uy, vx, vy] = numbers::<6>(value).ok_or(Refusal::Malformed)?;
-    Ok(PlaneReading::Cone(Cone::new(bx, by, ux, uy, vx, vy)?))
+    Ok(PlaneReading::from(Cone::new(bx, by, ux, uy, vx, vy)?))
 }

@@ -22,7 +22,8 @@ pub fn covers_index(stretch: Stretch, index: u32) -> bool
     stretch.low <= index && index <= stretch.high
 }
 
-// How many members hold an index.
+// How many members hold an index. The side and the members are two arguments here and below: they come apart at each
+// caller, and a struct of both would be made for one call.
 pub fn depth_at<S: Side>(side: &S, members: &[u64], index: u32) -> usize
     ensures { result ≡ depth (map (S.Side.extent side.now) members.now) index }
 {

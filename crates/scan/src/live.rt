@@ -12,7 +12,8 @@ pub trait Live {
         ensures { result ≡ live self.now index };
 }
 
-// The first live index from `from` up to, and not with, `to`.
+// The first live index from `from` up to, and not with, `to`. Two numbers, and no range: `live_run` takes one of them
+// from what it found.
 pub fn first_live<L: Live>(test: &L, from: u32, to: u32) -> Option<u32>
     ensures { First (L.Live.live test.now) from to result }
 {

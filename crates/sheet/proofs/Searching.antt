@@ -1,5 +1,6 @@
 -- A search through the pile, and through the roll.
-use Rattle.std.proofs.Common.{◌≡◌, ℕ, Bool, true, false, ◌||◌, cond, List, [], ◌∷◌, Some, None, Ok, Err, Option, sym, refl, ap, ◌∙◌, ap₂, inl, inr}
+use Rattle.std.proofs.Common.{◌≡◌, ℕ, Bool, true, false, ◌||◌, cond, List, [], ◌∷◌, Some, None, Ok, Err, Option, MatchOption, Bor, sym, refl, ap, ◌∙◌, ap₂, inl, inr}
+use Rattle.std.specs.Option.{option_map}
 use Rattle.std.specs.List.{list_any, find as find_in}
 use Rattle.std.proofs.lemmas.Bool.{cases_Bool}
 use Rattle.domain.specs.declared.refusal.Refusal.TheVariants.{NotAPoint}
@@ -18,6 +19,10 @@ use Rattle.sheet.specs.declared.store.Store.{Store}
 abbrev pub placed : {P : Type 0} → Option (Record P) → Place
 placed None = Taken
 placed (Some r) = place_of r.class
+
+pub placed_by : {P N : Type 0} {Q : Bor (Record P) → Type 0} (o : Option (Bor (Record P))) (p : Place) → MatchOption o N Q → (N → p ≡ Taken) → ((x : Bor (Record P)) → Q x → p ≡ place_of x.now.class) → p ≡ placed (option_map (λ x. x.now) o)
+placed_by None p m f h = f m
+placed_by (Some x) p m f h = h x m
 
 module _ {P : Type 0} (t : Task P) (n : ℕ) where
   -- the point is held where any of the pieces holds it

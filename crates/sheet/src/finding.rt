@@ -28,10 +28,9 @@ impl<C: Contractor> Sheet<C> {
     {
         let (older, newer) = self.store.roll.as_slices();
         let mut records = older.iter().chain(newer);
-        match records.find(|record| record.piece.holds(point)) {
-            Some(record) => Place::from(record.class),
-            None => Place::Taken,
-        }
+        records
+            .find(|record| record.piece.holds(point))
+            .map_or(Place::Taken, |record| Place::from(record.class))
     }
 
     // Refused with 14 where it is no point number of the start.

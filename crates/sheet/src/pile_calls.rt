@@ -1,4 +1,4 @@
-// What is done with the pieces that wait.
+// What is done with the pieces that wait. What `push` shares with the list of a file's readings is said there.
 ghost use Rattle.std.specs.Prelude.{◌≡◌, ◌+◌, ◌<◌, Bool, List, [], ◌∷◌, length, reverse, MatchOption};
 ghost use Rattle.sheet.specs.Piles.{waiting, Top, Popped};
 
@@ -19,10 +19,7 @@ impl<P: Copy> Pile<P> {
     pub(crate) fn top(&self) -> Option<P>
         ensures { Top (waiting self.now) result }
     {
-        if self.len == 0 {
-            return None;
-        }
-        Some(self.items[self.len - 1])
+        self.pieces().last().copied()
     }
 
     // The pieces that wait, the next one last.

@@ -1,36 +1,39 @@
 // Turns by name, and the end of a sheet.
-ghost use Rattle.std.specs.Prelude.{◌≡◌};
-ghost use Rattle.paving.specs.declared.answers.Answer.TheVariants.{Tallied};
+ghost use Rattle.std.specs.Prelude.{◌≡◌, MatchResult};
+ghost use Rattle.paving.specs.declared.answers.Answer.TheVariants.{Refused, Tallied};
 ghost use Rattle.paving.specs.declared.turns.Turn.TheVariants.{Tally as TallyTurn};
 ghost use Rattle.contractor.specs.Means.{means};
 ghost use Rattle.sheet.specs.Standing.{Turned};
 
 use crate::sheet::Sheet;
 use contractor::contractor::Contractor;
+use domain::refusal::Refusal;
 use paving::answers::Answer;
 use paving::tallies::Tally;
 use paving::turns::Turn;
 
 impl<C: Contractor> Sheet<C> {
-    // The call that a turn names. A `match` for each refusal: `map_or_else(Answer::Refused, ..)` gets no proof yet.
+    // What the call that a turn names answers, or its refusal.
+    fn answered(&mut self, turn: Turn) -> Result<Answer<C::Piece>, Refusal>
+        ensures { MatchResult result (λ answer. Turned C.Piece.Domain.maps (means C.Contractor) turn self.old answer self.new)
+            (λ refusal. Turned C.Piece.Domain.maps (means C.Contractor) turn self.old (Refused refusal) self.new) }
+    {
+        match turn {
+            Turn::Step => Ok(Answer::Stepped(self.step()?)),
+            Turn::Run(most) => Ok(Answer::Ran(self.run(most))),
+            Turn::Take => Ok(Answer::Taken(self.take()?)),
+            Turn::Find(point) => Ok(Answer::Found(self.find(point)?)),
+            Turn::Tally => Ok(Answer::Tallied(self.tally())),
+        }
+    }
+
+    // The call that a turn names. A `match`, which proves alone: the borrow checker does not cover `unwrap_or_else(Answer::Refused)`.
     pub fn turn(&mut self, turn: Turn) -> Answer<C::Piece>
         ensures { Turned C.Piece.Domain.maps (means C.Contractor) turn self.old result self.new }
     {
-        match turn {
-            Turn::Step => match self.step() {
-                Ok(records) => Answer::Stepped(records),
-                Err(refusal) => Answer::Refused(refusal),
-            },
-            Turn::Run(most) => Answer::Ran(self.run(most)),
-            Turn::Take => match self.take() {
-                Ok(record) => Answer::Taken(record),
-                Err(refusal) => Answer::Refused(refusal),
-            },
-            Turn::Find(point) => match self.find(point) {
-                Ok(place) => Answer::Found(place),
-                Err(refusal) => Answer::Refused(refusal),
-            },
-            Turn::Tally => Answer::Tallied(self.tally()),
+        match self.answered(turn) {
+            Ok(answer) => answer,
+            Err(refusal) => Answer::Refused(refusal),
         }
     }
 }

@@ -15,7 +15,8 @@ use domain::refusal::Refusal;
 use paving::tallies::Points;
 
 impl<C: Contractor> Sheet<C> {
-    // The start waits, and nothing else is there.
+    // The start waits, and nothing else is there. Contractor, start and grain are the sheet's own parts, and so the
+    // arguments of each function that opens one.
     pub fn open(contractor: C, start: C::Piece, grain: Grain) -> Sheet<C>
         ensures value { (result.contractor ≡ contractor) × ((result.start ≡ start) × (result.grain ≡ grain)) }
         ensures stands { StandsAfter C.Piece.Domain.maps (means C.Contractor) [] result }
@@ -39,9 +40,7 @@ impl<C: Contractor> Sheet<C> {
     pub fn step(&mut self) -> Result<u32, Refusal>
         ensures { Turned C.Piece.Domain.maps (means C.Contractor) StepTurn self.old (step_answer result) self.new }
     {
-        let Some(piece) = self.store.pile.top() else {
-            return Err(Refusal::NothingWaiting);
-        };
+        let piece = self.store.pile.top().ok_or(Refusal::NothingWaiting)?;
         let Some(kept) = self.contractor.keep(&piece) else {
             return self.store.record(Cut::away(piece));
         };

@@ -31,9 +31,7 @@ impl<C: Contractor> Sheet<C> {
     pub fn take(&mut self) -> Result<Record<C::Piece>, Refusal>
         ensures { Turned C.Piece.Domain.maps (means C.Contractor) TakeTurn self.old (take_answer result) self.new }
     {
-        let Some(record) = self.store.roll.take() else {
-            return Err(Refusal::RollEmpty);
-        };
+        let record = self.store.roll.take().ok_or(Refusal::RollEmpty)?;
         add_points(&mut self.store.taken, record.class, record.piece.count());
         Ok(record)
     }

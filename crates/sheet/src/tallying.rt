@@ -1,4 +1,4 @@
-// The counts of a sheet, and its end.
+// The counts of a sheet.
 ghost use Rattle.std.specs.Prelude.{◌≡◌};
 ghost use Rattle.domain.specs.Maps.{total};
 ghost use Rattle.paving.specs.Turns.{points_of};

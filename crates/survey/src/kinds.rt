@@ -2,7 +2,6 @@
 ghost use Rattle.std.specs.Prelude.{IfOk, string_bytes};
 ghost use Rattle.dial.specs.Arcs.{dial as dial_maps};
 ghost use Rattle.plane.specs.Boxes.{plane as plane_maps};
-ghost use Rattle.readings.specs.Files.{Makes, Sensible};
 ghost use Rattle.readings.specs.Requests.{asked as meant_by, meant};
 ghost use Rattle.survey.specs.Texts.{Paves, Paving, arc_text, box_text, dial_meaning, plane_meaning};
 
@@ -19,7 +18,6 @@ fn plane_text(
     alloc: Global,
     request: &Request<PlaneBox, PlaneReading>,
 ) -> Result<String, AllocError>
-    requires { Sensible (meant request.now) }
     ensures { IfOk result (λ t. Paving plane_maps plane_meaning box_text (meant request.now) (string_bytes t)) }
 {
     let readings = request.readings.all();
@@ -29,7 +27,6 @@ fn plane_text(
 }
 
 fn dial_text(alloc: Global, request: &Request<Arc, ArcReading>) -> Result<String, AllocError>
-    requires { Sensible (meant request.now) }
     ensures { IfOk result (λ t. Paving dial_maps dial_meaning arc_text (meant request.now) (string_bytes t)) }
 {
     let readings = request.readings.all();
@@ -40,7 +37,6 @@ fn dial_text(alloc: Global, request: &Request<Arc, ArcReading>) -> Result<String
 
 // The listing of what a file asks for, of whichever kind.
 pub(crate) fn asked_text(alloc: Global, asked: &Asked) -> Result<String, AllocError>
-    requires { Makes (meant_by asked.now) }
     ensures { IfOk result (λ t. Paves (meant_by asked.now) (string_bytes t)) }
 {
     match asked {

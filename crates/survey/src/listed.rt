@@ -2,7 +2,6 @@
 ghost use Rattle.std.specs.Prelude.{◌≡◌, ℕ, List, length, IfOk, string_bytes};
 ghost use Rattle.contractor.specs.Means.{means};
 ghost use Rattle.listing.specs.Lines.{Shown};
-ghost use Rattle.readings.specs.Files.{Sensible};
 ghost use Rattle.readings.specs.Requests.{meant};
 ghost use Rattle.survey.specs.Texts.{Paving};
 
@@ -25,7 +24,7 @@ pub(crate) fn listed<'a, P: Domain + fmt::Display, R: Contractor<Piece = P> + Co
     memory: &'a mut [R],
     request: &Request<P, R>,
 ) -> Result<(String, Sheet<Fixed<Relaxed<ReadingList<'a, R>>>>), AllocError>
-    requires { (length memory.old ≡ 16) × (Sensible (meant request.now)) }
+    requires { length memory.old ≡ 16 }
     ensures { (shown : P → List ℕ) → Shown P.Display.output shown → IfOk result (λ p. Paving P.Domain.maps (means R.Contractor) shown (meant request.now) (string_bytes p.0)) }
 {
     let readings = sealed(memory, request.readings.all());

@@ -12,7 +12,7 @@ use panels::panel::Panel;
 use panels::reading_list::ReadingList;
 
 pub(crate) fn run(rt: &impl Print) -> anyhow::Result<()> {
-    let blank = bearing(0, 1)?;
+    let blank = ArcReading::new(0, 1)?;
     let mut memory = [blank; 3];
     relaxed(rt, &mut memory)?;
     liars(rt, &mut memory, 2)?;
@@ -20,10 +20,6 @@ pub(crate) fn run(rt: &impl Print) -> anyhow::Result<()> {
     no_member(rt, &mut memory)?;
     full_memory(rt, &mut memory)?;
     full_draft(rt)
-}
-
-fn bearing(start: u16, len: u16) -> Result<ArcReading, Refusal> {
-    Arc::new(start, len).map(ArcReading::from)
 }
 
 // The arcs 10,5, 12,5 and 100,5, entered and sealed.
@@ -34,8 +30,8 @@ fn three<'a>(memory: &'a mut [ArcReading]) -> Result<ReadingList<'a, ArcReading>
 // The same, not yet sealed.
 fn drafted<'a>(memory: &'a mut [ArcReading]) -> Result<Draft<'a, ArcReading>, Refusal> {
     let mut draft = Draft::new(memory);
-    for start in [10, 12, 100].iter() {
-        draft.enter(bearing(*start, 5)?)?;
+    for start in [10, 12, 100] {
+        draft.enter(ArcReading::new(start, 5)?)?;
     }
     Ok(draft)
 }
@@ -72,7 +68,7 @@ fn no_member(rt: &impl Print, memory: &mut [ArcReading]) -> anyhow::Result<()> {
 // A fourth reading where three fit.
 fn full_memory(rt: &impl Print, memory: &mut [ArcReading]) -> anyhow::Result<()> {
     let mut draft = drafted(memory)?;
-    if let Err(refusal) = draft.enter(bearing(200, 5)?) {
+    if let Err(refusal) = draft.enter(ArcReading::new(200, 5)?) {
         println!(rt; "a fourth reading: {refusal}")?;
     }
     let count = draft.count();
@@ -82,8 +78,8 @@ fn full_memory(rt: &impl Print, memory: &mut [ArcReading]) -> anyhow::Result<()>
 
 // A seventeenth reading, and a panel of seventeen.
 fn full_draft(rt: &impl Print) -> anyhow::Result<()> {
-    let reading = bearing(10, 5)?;
-    let mut memory = [bearing(0, 1)?; 17];
+    let reading = ArcReading::new(10, 5)?;
+    let mut memory = [ArcReading::new(0, 1)?; 17];
     let mut draft = Draft::new(&mut memory);
     for _ in 0..16 {
         draft.enter(reading)?;

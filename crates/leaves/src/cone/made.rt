@@ -1,9 +1,9 @@
 // How a cone is made.
-ghost use Rattle.leaves.specs.Cones.{ConeMade, HasNumbers};
+ghost use Rattle.std.specs.Prelude.{Decides};
+ghost use Rattle.leaves.specs.Cones.{ConeMade, HasNumbers, IsOpen};
 
-use crate::beacon::Beacon;
 use crate::cone::Cone;
-use crate::cone::direction::Direction;
+use crate::vector::{Beacon, Direction};
 use domain::refusal::Refusal;
 
 impl Cone {
@@ -15,7 +15,7 @@ impl Cone {
         let beacon = Beacon::new(bx, by)?;
         let u = Direction::new(ux, uy)?;
         let v = Direction::new(vx, vy)?;
-        if !v.opens_from(u) {
+        if !opens(u, v) {
             return Err(Refusal::BadCone);
         }
         Ok(Cone { beacon, u, v })
@@ -31,4 +31,11 @@ impl Cone {
             v: self.u.turned(),
         }
     }
+}
+
+// Whether v lies counterclockwise of u, by less than half a turn.
+fn opens(u: Direction, v: Direction) -> bool
+    ensures { Decides result (IsOpen u.x u.y v.x v.y) }
+{
+    i32::from(u.x) * i32::from(v.y) - i32::from(u.y) * i32::from(v.x) > 0
 }

@@ -5,9 +5,9 @@ ghost use Rattle.leaves.specs.Cones.{offset as offset_of, keeps, sheds, most, fe
 ghost use Rattle.leaves.specs.Judged.{SameOnPlane};
 
 use crate::cone::Cone;
-use crate::cone::direction::Direction;
 use crate::offset::{Offset, Product};
 use crate::opposite::Opposite;
+use crate::vector::Direction;
 use plane::span::Span;
 use scan::live::Live;
 
@@ -55,8 +55,8 @@ impl Cone {
     {
         Slopes {
             cone: self,
-            first: greatest(self.u, self.beacon.y, rows),
-            second: least(self.v, self.beacon.y, rows),
+            first: extremes(self.u, self.beacon.y, rows).1,
+            second: extremes(self.v, self.beacon.y, rows).0,
         }
     }
 
@@ -66,37 +66,25 @@ impl Cone {
     {
         Opposite(Slopes {
             cone: self,
-            first: least(self.u, self.beacon.y, rows),
-            second: greatest(self.v, self.beacon.y, rows),
+            first: extremes(self.u, self.beacon.y, rows).0,
+            second: extremes(self.v, self.beacon.y, rows).1,
         })
     }
 }
 
-// The products of a direction's columns and the offsets of both ends of a span.
-fn products(direction: Direction, beacon: i16, span: Span) -> (Product, Product)
-    ensures low { result.0.value ≡ direction.x *ℤ offset_of beacon span.low }
-    ensures high { result.1.value ≡ direction.x *ℤ offset_of beacon span.high }
+// The least and the greatest product of a direction's columns and an offset from a beacon, over a span. A product rises
+// or falls all along, so that the ends have them.
+fn extremes(direction: Direction, beacon: i16, span: Span) -> (Product, Product)
+    ensures least { result.0.value ≡ fewest direction.x beacon (stretch span) }
+    ensures greatest { result.1.value ≡ most direction.x beacon (stretch span) }
 {
     let (low, high) = Offset::of_ends(beacon, span);
-    (low.times(direction.x), high.times(direction.x))
-}
-
-// The greatest product over a span. A product rises or falls all along, so an end has it.
-fn greatest(direction: Direction, beacon: i16, span: Span) -> Product
-    ensures { result.value ≡ most direction.x beacon (stretch span) }
-{
-    let (low, high) = products(direction, beacon, span);
-    Product {
-        value: low.value.max(high.value),
-    }
-}
-
-// The least. To pass max or min to one text for both would be no shorter.
-fn least(direction: Direction, beacon: i16, span: Span) -> Product
-    ensures { result.value ≡ fewest direction.x beacon (stretch span) }
-{
-    let (low, high) = products(direction, beacon, span);
-    Product {
-        value: low.value.min(high.value),
-    }
+    let (one, other) = (low.times(direction.x).value, high.times(direction.x).value);
+    let least = Product {
+        value: one.min(other),
+    };
+    let greatest = Product {
+        value: one.max(other),
+    };
+    (least, greatest)
 }

@@ -2,8 +2,8 @@
 ghost use Rattle.std.specs.Prelude.{◌≡◌, Decides};
 ghost use Rattle.leaves.specs.Rings.{AreRadii, RingMade};
 
-use crate::beacon::Beacon;
 use crate::ring::Ring;
+use crate::vector::Beacon;
 use domain::refusal::Refusal;
 
 impl Ring {

@@ -53,7 +53,8 @@ impl Ring {
     }
 }
 
-// The square of the least distance over a span: that of the index nearest to the beacon.
+// The square of the least distance over a span: that of the index nearest to the beacon. A number of the beacon and a span
+// of the other side come together here and for cones: a struct of the two would stand for neither side.
 fn nearest(beacon: i16, span: Span) -> Square
     ensures { result.value ≡ square_of (nearest_of beacon (stretch span)) }
 {

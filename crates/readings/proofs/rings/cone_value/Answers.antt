@@ -10,8 +10,9 @@ use Rattle.readings.proofs.rings.cone_value.Goals as goal
 
 pub returns : goal.returns
 returns c =
-    read_as 6 ConeValue c.args.value.now c.in_ok-bx.field-0 (MatchOption-at_some _ _ c.in_ok-bx.field-0 c.in_ok-bx.ensures.ok_part c.numbers.ensures) (Ok (OfCone c.in_ok-new.field-0))
-    (cone_ok _ _ _ _ _ _ c.in_ok-new.field-0 c.in_ok-new.ensures)
+    rw c.from.ensures
+    (read_as 6 ConeValue c.args.value.now c.in_ok-bx.field-0 (MatchOption-at_some _ _ c.in_ok-bx.field-0 c.in_ok-bx.ensures.ok_part c.numbers.ensures) (Ok (OfCone c.in_ok-new.field-0))
+    (cone_ok _ _ _ _ _ _ c.in_ok-new.field-0 c.in_ok-new.ensures))
 
 pub returns-in_err-new : goal.returns-in_err-new
 returns-in_err-new c =

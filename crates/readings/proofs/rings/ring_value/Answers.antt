@@ -10,8 +10,9 @@ use Rattle.readings.proofs.rings.ring_value.Goals as goal
 
 pub returns : goal.returns
 returns c =
-    read_as 4 RingValue c.args.value.now c.in_ok-bx.field-0 (MatchOption-at_some _ _ c.in_ok-bx.field-0 c.in_ok-bx.ensures.ok_part c.numbers.ensures) (Ok (OfRing c.in_ok-new.field-0))
-    (ring_ok _ _ _ _ c.in_ok-new.field-0 c.in_ok-new.ensures)
+    rw c.from.ensures
+    (read_as 4 RingValue c.args.value.now c.in_ok-bx.field-0 (MatchOption-at_some _ _ c.in_ok-bx.field-0 c.in_ok-bx.ensures.ok_part c.numbers.ensures) (Ok (OfRing c.in_ok-new.field-0))
+    (ring_ok _ _ _ _ c.in_ok-new.field-0 c.in_ok-new.ensures))
 
 pub returns-in_err-new : goal.returns-in_err-new
 returns-in_err-new c =

@@ -15,8 +15,8 @@ returns-in_err-v c =
     let h = c.in_err-v.ensures in
     rw (p.1, p.2) (inl (λ r. h.0 (of_two IsDirection (sym vx) (sym vy) r.directions.1), h.1))
 
-pub returns-then-not-opens_from : goal.returns-then-not-opens_from
-returns-then-not-opens_from c =
+pub returns-then-not-opens : goal.returns-then-not-opens
+returns-then-not-opens c =
     let bx = to_z-of_z w32 c.args.bx c.ranges.bx in
     let by = to_z-of_z w32 c.args.by c.ranges.by in
     let ux = to_z-of_z w32 c.args.ux c.ranges.ux in
@@ -28,12 +28,12 @@ returns-then-not-opens_from c =
     let v = c.in_ok-v.ensures in
     inr (
       record { beacon = of_two IsBeacon bx by b.0; directions = (of_two IsDirection ux uy u.0, of_two IsDirection vx vy v.0) },
-      (λ o. both_ways c.opens_from.result c.if-not-opens_from.true (c.opens_from.ensures.1 (of_four IsOpen (sym (u.1.0 ∙ ux)) (sym (u.1.1 ∙ uy)) (sym (v.1.0 ∙ vx)) (sym (v.1.1 ∙ vy)) o))),
+      (λ o. both_ways c.opens.result c.if-not-opens.true (c.opens.ensures.1 (of_four IsOpen (sym (u.1.0 ∙ ux)) (sym (u.1.1 ∙ uy)) (sym (v.1.0 ∙ vx)) (sym (v.1.1 ∙ vy)) o))),
       refl,
     )
 
 pub invariant_of-result : goal.invariant_of-result
-invariant_of-result c = record { opens = c.opens_from.ensures.0 c.if-not-opens_from.false }
+invariant_of-result c = record { opens = c.opens.ensures.0 c.if-not-opens.false }
 
 pub returns : goal.returns
 returns c =
@@ -47,6 +47,6 @@ returns c =
     let u = c.in_ok-u.ensures in
     let v = c.in_ok-v.ensures in (
       record { beacon = of_two IsBeacon bx by b.0; directions = (of_two IsDirection ux uy u.0, of_two IsDirection vx vy v.0) },
-      of_four IsOpen (u.1.0 ∙ ux) (u.1.1 ∙ uy) (v.1.0 ∙ vx) (v.1.1 ∙ vy) (c.opens_from.ensures.0 c.if-not-opens_from.false),
+      of_four IsOpen (u.1.0 ∙ ux) (u.1.1 ∙ uy) (v.1.0 ∙ vx) (v.1.1 ∙ vy) (c.opens.ensures.0 c.if-not-opens.false),
       record { bx_is = b.1.0 ∙ bx; by_is = b.1.1 ∙ by; ux_is = u.1.0 ∙ ux; uy_is = u.1.1 ∙ uy; vx_is = v.1.0 ∙ vx; vy_is = v.1.1 ∙ vy },
     )
