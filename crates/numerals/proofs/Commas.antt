@@ -6,7 +6,8 @@ use Rattle.std.proofs.lemmas.List.{take_all, take_more_set}
 use Rattle.std.proofs.lemmas.List.Elements.{All-from_get_or, All-nil, All-cons, All-head, All-tail}
 use Rattle.numerals.specs.Lists.{Without, Cut, listed, Lists}
 use Rattle.numerals.proofs.Cuts.{one_cut}
-use Rattle.numerals.proofs.Signs.{digit_in, small_mag}
+use Rattle.numerals.proofs.Digits.{digit_in}
+use Rattle.numerals.proofs.Signs.{small_mag}
 
 decimal_without : (n b : ℕ) → n < 10 ^ 10 → b < 48 → Without b (decimal n)
 decimal_without n b h l = All-from_get_or (λ x. x ≡ b → ⊥) (decimal n) 0 (λ i g e. omega (arith, digit_in n i (omega arith) g, e))

@@ -1,5 +1,5 @@
 // Numbers between commas.
-ghost use Rattle.std.specs.Prelude.{◌≡◌, ℕ, List, ◌∷◌, ◌++◌, ℤ, MatchOption, FitsSigned, ◌≢◌};
+ghost use Rattle.std.specs.Prelude.{◌≡◌, ℕ, List, [], ◌∷◌, ◌++◌, ℤ, MatchOption, FitsSigned, ◌≢◌};
 ghost use Rattle.std.specs.Int.{w32};
 ghost use Rattle.std.specs.Fmt.{signed_decimal};
 ghost use Rattle.numerals.specs.Lists.{Lists};
@@ -30,4 +30,36 @@ pub fn numbers<const N: usize>(text: &[u8]) -> Option<[i32; N]>
     }
     numbers[N - 1] = read_number(rest)?;
     Some(numbers)
+}
+
+// The number that a text writes.
+pub fn one_number(text: &[u8]) -> Option<i32>
+    ensures { MatchOption result ((zs : List ℤ) → Lists 1 text.now zs → ⊥) (λ z. Lists 1 text.now (z ∷ [])) }
+{
+    let [number] = numbers::<1>(text)?;
+    Some(number)
+}
+
+// The two numbers that a text lists.
+pub fn two_numbers(text: &[u8]) -> Option<(i32, i32)>
+    ensures { MatchOption result ((zs : List ℤ) → Lists 2 text.now zs → ⊥) (λ p. Lists 2 text.now (p.0 ∷ p.1 ∷ [])) }
+{
+    let [first, second] = numbers::<2>(text)?;
+    Some((first, second))
+}
+
+// The four numbers that a text lists.
+pub fn four_numbers(text: &[u8]) -> Option<(i32, i32, i32, i32)>
+    ensures { MatchOption result ((zs : List ℤ) → Lists 4 text.now zs → ⊥) (λ p. Lists 4 text.now (p.0 ∷ p.1 ∷ p.2 ∷ p.3 ∷ [])) }
+{
+    let [first, second, third, fourth] = numbers::<4>(text)?;
+    Some((first, second, third, fourth))
+}
+
+// The six numbers that a text lists.
+pub fn six_numbers(text: &[u8]) -> Option<(i32, i32, i32, i32, i32, i32)>
+    ensures { MatchOption result ((zs : List ℤ) → Lists 6 text.now zs → ⊥) (λ p. Lists 6 text.now (p.0 ∷ p.1 ∷ p.2 ∷ p.3 ∷ p.4 ∷ p.5 ∷ [])) }
+{
+    let [first, second, third, fourth, fifth, sixth] = numbers::<6>(text)?;
+    Some((first, second, third, fourth, fifth, sixth))
 }
