@@ -18,6 +18,7 @@ use Rattle.sheet.specs.declared.grain.Grain.{Grain}
 use Rattle.sheet.specs.declared.sheet.Sheet.{Sheet}
 use Rattle.sheet.proofs.Striding.{same_task}
 use Rattle.plays.specs.Plays.{PlayedAll, PlayedBoth}
+use Rattle.plays.proofs.Numbering.{numbers_decided}
 
 module _ {C P : Type 0} {g : Contractor.Ghosts C P} {e : Domain.Ghosts P} (d : Maps P) (m : C → Meaning P) (t : Task P) where
   -- the first i turns are played on the sheet
@@ -106,4 +107,8 @@ module _ {P : Type 0} (t q : Task P) (us : List Turn) where
 pub played_both : {P : Type 0} (d : Maps P) (l : Laws d) (a b : Meaning P) (start : P) (grain : ℕ) (us : List Turn) (i : ℕ) (t q : Task P) (r : Bool) → t ≡ task d a start grain → q ≡ task d b start grain → length us ≤ i → Alike t q us i r → PlayedBoth d a b start grain us r
 played_both d l a b start grain us i t q r e f h w =
     let v : Decides r (answers (task d a start grain) us ≡ answers (task d b start grain) us) = subst (λ x. Decides r (answers (task d a start grain) us ≡ answers x us)) f (subst (λ x. Decides r (answers x us ≡ answers q us)) e (subst (λ vs. Decides r (answers t vs ≡ answers q vs)) (take_all i us h) w)) in
-    record { value = v; order = λ s. v.1 (order_law d l a start grain b s us) }
+    record {
+      value = v;
+      numbered = numbers_decided d l r _ _ v;
+      order = λ s. v.1 (order_law d l a start grain b s us);
+    }

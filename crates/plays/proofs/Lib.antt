@@ -1,1 +1,2 @@
 pub mod Gaming
+pub mod Numbering

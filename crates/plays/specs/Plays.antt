@@ -13,6 +13,7 @@ use Rattle.paving.specs.declared.turns.Turn.{Turn}
 use Rattle.sheet.specs.Standing.{task_of, StandsAfter}
 use Rattle.sheet.specs.declared.grain.Grain.{Grain}
 use Rattle.sheet.specs.declared.sheet.Sheet.{Sheet}
+use Rattle.plays.specs.Numbered.{numbers}
 use Rattle.plays.specs.declared.lengths.LengthsDiffer.{LengthsDiffer}
 
 -- What it is to play a list of turns over a contractor: s is the sheet, and r whether they were played.
@@ -31,5 +32,7 @@ pub record PlayedAll {C P : Type 0} {g : Contractor.Ghosts C P} {e : Domain.Ghos
 -- What it is to play a list of turns over two contractors: r is whether they answered alike.
 pub record PlayedBoth {P : Type 0} (d : Maps P) (a b : Meaning P) (start : P) (grain : ℕ) (us : List Turn) (r : Bool) : Type 0 where
   pub value : Decides r (answers (task d a start grain) us ≡ answers (task d b start grain) us)
+  -- and so whether all answers had the same numbers
+  pub numbered : Decides r (map (numbers d) (answers (task d a start grain) us) ≡ map (numbers d) (answers (task d b start grain) us))
   -- rearranged contractors never differ
   pub order : Rearranged d a b → r ≡ true

@@ -3,5 +3,6 @@
 
 pub mod both_plays;
 pub mod lengths;
+pub mod numbers;
 pub mod plays;
 pub mod same_answers;
