@@ -2,6 +2,7 @@
 #![tactic(auto)]
 
 pub mod draft;
+pub mod entered;
 pub mod joined;
 pub mod pair;
 pub mod panel;

@@ -10,6 +10,7 @@ use contractor::contractor::Contractor;
 use domain::refusal::Refusal;
 
 pub mod order;
+mod places;
 
 // The readings are the front of memory that the caller lends: the library has no heap.
 #[derive(Drop)]
