@@ -3,11 +3,13 @@ ghost use Rattle.std.specs.Prelude.{◌<◌, length, IfSome};
 
 use std::alloc::{AllocError, Global};
 
-// The value of a digit of base sixteen; 0 for what is none.
+// The value of a digit of base sixteen, of which the letters are small; 0 for what is none.
 fn digit(byte: u8) -> u8 {
-    char::from(byte)
-        .to_digit(16)
-        .map_or(0, |value| (value & 15) as u8)
+    match byte {
+        b'0'..=b'9' => byte - b'0',
+        b'a'..=b'f' => byte - b'a' + 10,
+        _ => 0,
+    }
 }
 
 // The byte that a text begins with, and what is written after it. A text that ends inside an escape has no more.
