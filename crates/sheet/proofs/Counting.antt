@@ -99,12 +99,30 @@ total_reverse d (p ∷ ps) =
     omega (arith, ap (total d) (reverse-append (p ∷ []) ps), sum_by-append d.count (reverse ps) (p ∷ []), total_reverse d ps, sum_by-cons d.count p ps, sum_by-cons d.count p [])
 
 module _ {P : Type 0} (t : Task P) (l : Laws t.maps) (set : ℕ → Bool) (sound : Sound t.maps (meaning set t.keep t.shed)) (s : Store P) (x : State P) (k : Kept t set x) (h : Shows t s x) where
-  take_none : rolled s.roll ≡ [] → (take_answer (Err RollEmpty) ≡ (turn t Take x).value) × Shows t s (turn t Take x).after
+  pub take_none : rolled s.roll ≡ [] → (take_answer (Err RollEmpty) ≡ (turn t Take x).value) × Shows t s (turn t Take x).after
   take_none w =
       let e : take_oldest x ≡ Err RollEmpty = ap (take_from x) (sym h.roll ∙ w) in
       (sym (ap (λ q. (answered Took q x).value) e), subst (λ q. Shows t s (answered Took q x).after) (sym e) h)
 
-  take_shows : (q : Record P) (left : Roll P) (p : Points) → rolled s.roll ≡ q ∷ rolled left → p ≡ plus s.taken q.class (t.maps.count q.piece) → (take_answer (Ok q) ≡ (turn t Take x).value) × Shows t (record { pile = s.pile; roll = left; taken = p; steps = s.steps; next_label = s.next_label }) (turn t Take x).after
+  small_waiting : total t.maps (waiting s.pile) < 2 ^ 64
+  small_waiting = omega (arith, (sum_law t l set x k).tally_added, count_height t.maps l 24 t.start (l.height_most t.start), ap (total t.maps) h.pile)
+
+  small_roll : points_in (points_of t (rolled s.roll)) < 2 ^ 64
+  small_roll = omega (arith, (sum_law t l set x k).tally_added, count_height t.maps l 24 t.start (l.height_most t.start), ap (λ rs. points_in (points_of t rs)) h.roll)
+
+  -- the counts of a sheet are those of its start, and small
+  pub small_counts : (total t.maps (waiting s.pile) < 2 ^ 64) × (points_in (points_of t (rolled s.roll)) < 2 ^ 64)
+  small_counts = (small_waiting, small_roll)
+
+  small_taken : (q : Record P) (rs : List (Record P)) → rolled s.roll ≡ q ∷ rs → points_at s.taken q.class + t.maps.count q.piece < 2 ^ 64
+  small_taken q rs w =
+      let f = sym h.roll ∙ w in
+      let told = (sum_law t l set (one_taken x) ((keeps t l set sound).on_take x k q rs f)).tally_added in
+      let few = count_height t.maps l 24 t.start (l.height_most t.start) in
+      omega (arith, told, few, ap (λ ys. points_in (points_of t ys)) (next_taken x.taken x.made q rs f).0, ap (λ y. points_in (plus y q.class (t.maps.count q.piece))) h.taken, ap points_in (plus_more t (gone x) q), plus_in t s.taken q.class (t.maps.count q.piece))
+
+  -- what is taken is the oldest on the roll, its points are added to those taken, and the sum is small
+  pub take_shows : (q : Record P) (left : Roll P) (p : Points) → rolled s.roll ≡ q ∷ rolled left → p ≡ plus s.taken q.class (t.maps.count q.piece) → (take_answer (Ok q) ≡ (turn t Take x).value) × Shows t (record { pile = s.pile; roll = left; taken = p; steps = s.steps; next_label = s.next_label }) (turn t Take x).after × (points_at s.taken q.class + t.maps.count q.piece < 2 ^ 64)
   take_shows q left p w e =
       let f = sym h.roll ∙ w in
       let n = next_taken x.taken x.made q (rolled left) f in
@@ -118,25 +136,11 @@ module _ {P : Type 0} (t : Task P) (l : Laws t.maps) (set : ℕ → Bool) (sound
         steps = h.steps;
         label = h.label;
       } in
-      (sym (ap (λ r. (answered Took r x).value) o), subst (λ r. Shows t v (answered Took r x).after) (sym o) shown)
+      (sym (ap (λ r. (answered Took r x).value) o), subst (λ r. Shows t v (answered Took r x).after) (sym o) shown, small_taken q (rolled left) w)
 
-  -- the counts of a sheet are those of its start, and small
-  small_waiting : total t.maps (waiting s.pile) < 2 ^ 64
-  small_waiting = omega (arith, (sum_law t l set x k).tally_added, count_height t.maps l 24 t.start (l.height_most t.start), ap (total t.maps) h.pile)
-
-  small_roll : points_in (points_of t (rolled s.roll)) < 2 ^ 64
-  small_roll = omega (arith, (sum_law t l set x k).tally_added, count_height t.maps l 24 t.start (l.height_most t.start), ap (λ rs. points_in (points_of t rs)) h.roll)
-
-  small_taken : (q : Record P) (rs : List (Record P)) → rolled s.roll ≡ q ∷ rs → points_at s.taken q.class + t.maps.count q.piece < 2 ^ 64
-  small_taken q rs w =
-      let f = sym h.roll ∙ w in
-      let told = (sum_law t l set (one_taken x) ((keeps t l set sound).on_take x k q rs f)).tally_added in
-      let few = count_height t.maps l 24 t.start (l.height_most t.start) in
-      omega (arith, told, few, ap (λ ys. points_in (points_of t ys)) (next_taken x.taken x.made q rs f).0, ap (λ y. points_in (plus y q.class (t.maps.count q.piece))) h.taken, ap points_in (plus_more t (gone x) q), plus_in t s.taken q.class (t.maps.count q.piece))
-
-  tally_shows : (w : ℕ) (q : Points) → w ≡ total t.maps (waiting s.pile) → q ≡ points_of t (rolled s.roll) → ◌≡◌ {A = Answer P} (Tallied (record { waiting = w; roll = q; taken = s.taken; steps = s.steps; next_label = s.next_label })) (Tallied (tally t x))
+  pub tally_shows : (w : ℕ) (q : Points) → (total t.maps (waiting s.pile) < 2 ^ 64 → w ≡ total t.maps (waiting s.pile)) → (points_in (points_of t (rolled s.roll)) < 2 ^ 64 → q ≡ points_of t (rolled s.roll)) → ◌≡◌ {A = Answer P} (Tallied (record { waiting = w; roll = q; taken = s.taken; steps = s.steps; next_label = s.next_label })) (Tallied (tally t x))
   tally_shows w q a b =
-      ap₂ (λ (i : ℕ) (j : Points). Tallied (record { waiting = i; roll = j; taken = s.taken; steps = s.steps; next_label = s.next_label })) (a ∙ ap (total t.maps) h.pile) (b ∙ ap (points_of t) h.roll)
+      ap₂ (λ (i : ℕ) (j : Points). Tallied (record { waiting = i; roll = j; taken = s.taken; steps = s.steps; next_label = s.next_label })) (a small_waiting ∙ ap (total t.maps) h.pile) (b small_roll ∙ ap (points_of t) h.roll)
       ∙ ap₂ (λ (j : Points) (i : ℕ). Tallied (record { waiting = total t.maps x.waiting; roll = points_of t (roll x); taken = j; steps = i; next_label = s.next_label })) h.taken h.steps
       ∙ ap (λ (i : ℕ). Tallied (record { waiting = total t.maps x.waiting; roll = points_of t (roll x); taken = points_of t (gone x); steps = x.steps; next_label = i })) h.label
 
@@ -163,7 +167,8 @@ module _ {C P : Type 0} {g : Contractor.Ghosts C P} {e : Domain.Ghosts P} (l : L
       (take_none t l (g.set s.contractor) (sound s.contractor) s.store x k h w)
 
   pub take_does : (q : Record P) (left : Roll P) (p : Points) (n : ℕ) → rolled s.store.roll ≡ q ∷ rolled left → p ≡ plus s.store.taken q.class n → n ≡ e.maps.count q.piece → Does t (g.set s.contractor) Take s.store (take_answer (Ok q)) (taken_store left p)
-  take_does q left p n w a b x k h = take_shows t l (g.set s.contractor) (sound s.contractor) s.store x k h q left p w (a ∙ ap (plus s.store.taken q.class) b)
+  take_does q left p n w a b x k h =
+      let r = take_shows t l (g.set s.contractor) (sound s.contractor) s.store x k h q left p w (a ∙ ap (plus s.store.taken q.class) b) in (r.0, r.1)
 
   pub tally_does : (w : ℕ) (q : Points) → w ≡ total e.maps (waiting s.store.pile) → q ≡ points_of t (rolled s.store.roll) → Does t (g.set s.contractor) TallyTurn s.store (Tallied (record { waiting = w; roll = q; taken = s.store.taken; steps = s.store.steps; next_label = s.store.next_label })) s.store
-  tally_does w q a b x k h = (tally_shows t l (g.set s.contractor) (sound s.contractor) s.store x k h w q a b, h)
+  tally_does w q a b x k h = (tally_shows t l (g.set s.contractor) (sound s.contractor) s.store x k h w q (λ _. a) (λ _. b), h)
