@@ -38,7 +38,7 @@ log_up_half m n l s h = go (log_up n) refl
     go zero q = absurd (omega (arith, subst (λ (e : ℕ). n ≤ 2 ^ e) q (log_up_enough n h)))
     go (suc e) q = omega (arith, q, log_up_least m e (omega arith) (omega (arith, subst (λ (k : ℕ). n ≤ 2 ^ k) q (log_up_enough n h), pow-succ' 2 e)))
 
-log_up_is : (n e : ℕ) → n ≤ 2 ^ 32 → n ≤ 2 ^ e → ((i : ℕ) → i < e → 2 ^ i < n) → e ≡ log_up n
+pub log_up_is : (n e : ℕ) → n ≤ 2 ^ 32 → n ≤ 2 ^ e → ((i : ℕ) → i < e → 2 ^ i < n) → e ≡ log_up n
 log_up_is n e h u d =
     elim (cases_lt (log_up n) e) [
       | inl l ↦ absurd (omega (arith, d (log_up n) l, log_up_enough n h))
