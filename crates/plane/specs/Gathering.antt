@@ -20,6 +20,13 @@ Crossing ps k g =
 abbrev pub CrossingOf : List ℕ → ℕ → Option PlaneBox → Type 0
 CrossingOf ns k g = MatchOption (pieces plane ns) ⊥ (λ ps. Crossing ps k g)
 
+-- the columns and the rows of the box of a number, read off the number
+abbrev pub columns_numbered : ℕ → Stretch
+columns_numbered n = record { low = n / 2 ^ 36; high = n / 2 ^ 12 % 2 ^ 12 }
+
+abbrev pub rows_numbered : ℕ → Stretch
+rows_numbered n = record { low = n / 2 ^ 24 % 2 ^ 12; high = n % 2 ^ 12 }
+
 -- the columns of the box of a number, read off the number at binary place 12, or its rows, at place 0: the
 -- last one stands at the place, and the first one 24 places before it
 abbrev pub numbered_at : ℕ → ℕ → Stretch

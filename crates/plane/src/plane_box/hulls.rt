@@ -7,6 +7,7 @@ use crate::plane_box::PlaneBox;
 
 impl PlaneBox {
     // The smallest box that holds both.
+    #[tactic(auto, using(crate::specs::Ends::span_is))]
     fn hull(&self, other: &PlaneBox) -> PlaneBox
         ensures { HasNumbers (min self.now.columns.low other.now.columns.low) (min self.now.rows.low other.now.rows.low) (max self.now.columns.high other.now.columns.high) (max self.now.rows.high other.now.rows.high) result }
     {

@@ -10,6 +10,7 @@ use domain::refusal::Refusal;
 
 impl PlaneBox {
     // The box of columns x0 to x1 and rows y0 to y1; refused with 1 unless x0 ≤ x1 ≤ 4095 and y0 ≤ y1 ≤ 4095.
+    #[tactic(auto, using(crate::specs::Made::box_none))]
     pub fn new(x0: u16, y0: u16, x1: u16, y1: u16) -> Result<PlaneBox, Refusal>
         ensures value { Given result 1 (AreBox x0 y0 x1 y1) (λ b. HasNumbers x0 y0 x1 y1 b) }
         ensures made { MatchResult result (λ b. box_of x0 y0 x1 y1 ≡ Some b) (λ e. (box_of x0 y0 x1 y1 ≡ None) × (code e ≡ 1)) }
