@@ -23,22 +23,25 @@ over p s = run p s.low (suc s.high - s.low)
 stretch_of : (s : Stretch) (c : Span) → Some c ≡ spanned s → stretch c ≡ s
 stretch_of s c e = let h = span_is s.low s.high c (sym e) in ap₂ (λ (l k : ℕ). record { low = l; high = k }) h.0 h.1
 
--- over a stretch of the plane, two tests that are the same on the plane find the same
-same_over : (p q : ℕ → Bool) (s : Span) → SameOnPlane p q → over p (stretch s) ≡ over q (stretch s)
-same_over p q s h = let a = s.ordered in let b = s.most in run_ext p q s.low (long s) (λ i low high. h i (omega arith))
+-- over a span, two tests that are the same on the plane find the same
+pub same_over : (p q : ℕ → Bool) (s : Span) → SameOnPlane p q → option_and_then spanned (over p (stretch s)) ≡ option_and_then spanned (over q (stretch s))
+same_over p q s h =
+    let a = s.ordered in
+    let b = s.most in
+    ap (option_and_then spanned) (run_ext p q s.low (long s) (λ i low high. h i (omega arith)))
 
--- in x, of columns c and rows r, tests a and b that are made as f and g say
-module _ (f g : Test) (x : PlaneBox) (c r : Span) (is_c : c ≡ x.columns) (is_r : r ≡ x.rows) (a : ℕ → Bool) (as_f : SameOnPlane a (f (stretch r))) where
-  found : over a (stretch c) ≡ live_columns f x
-  found = same_over a (f (stretch r)) c as_f ∙ ap₂ (λ (s t : Stretch). over (f s) t) (ap stretch is_r) (ap stretch is_c)
+-- in x, of columns c and rows r
+module _ (f g : Test) (x : PlaneBox) (c r : Span) (is_c : c ≡ x.columns) (is_r : r ≡ x.rows) where
+  found : over (f (stretch r)) (stretch c) ≡ live_columns f x
+  found = ap₂ (λ (s t : Stretch). over (f s) t) (ap stretch is_r) (ap stretch is_c)
 
-  pub none_across : None ≡ option_and_then spanned (over a (stretch c)) → ◌≡◌ {A = Option PlaneBox} None (judged f g x)
+  pub none_across : None ≡ option_and_then spanned (over (f (stretch r)) (stretch c)) → ◌≡◌ {A = Option PlaneBox} None (judged f g x)
   none_across e =
       ap (λ (o : Option Span). crossing o (option_and_then spanned (live_rows g x (live_columns f x)))) (e ∙ ap (option_and_then spanned) found)
       ∙ crossed_by (live_columns f x) (live_rows g x (live_columns f x))
 
-  pub some_across : (s : Span) → Some s ≡ option_and_then spanned (over a (stretch c)) → (b : ℕ → Bool) → SameOnPlane b (g (stretch s)) → (o : Option Span) → o ≡ option_and_then spanned (over b (stretch r)) → crossing (Some s) o ≡ judged f g x
-  some_across s e b as_g o h = go (live_columns f x) (e ∙ ap (option_and_then spanned) found)
+  pub some_across : (s : Span) → Some s ≡ option_and_then spanned (over (f (stretch r)) (stretch c)) → (o : Option Span) → o ≡ option_and_then spanned (over (g (stretch s)) (stretch r)) → crossing (Some s) o ≡ judged f g x
+  some_across s e o h = go (live_columns f x) (e ∙ ap (option_and_then spanned) found)
     where
       go : (d : Option Stretch) → Some s ≡ option_and_then spanned d → crossing (Some s) o ≡ crossed d (live_rows g x d)
       go None k = absurd (nothing k)
@@ -46,6 +49,5 @@ module _ (f g : Test) (x : PlaneBox) (c r : Span) (is_c : c ≡ x.columns) (is_r
           nothing : ◌≡◌ {A = Option Span} (Some s) None → ⊥
           nothing q = cc
       go (Some d) k =
-          let same : over b (stretch r) ≡ over (g d) (rows x) =
-          same_over b (g (stretch s)) r as_g ∙ ap₂ (λ (t u : Stretch). over (g t) u) (stretch_of d s k) (ap stretch is_r) in
+          let same : over (g (stretch s)) (stretch r) ≡ over (g d) (rows x) = ap₂ (λ (t u : Stretch). over (g t) u) (stretch_of d s k) (ap stretch is_r) in
           ap₂ crossing k (h ∙ ap (option_and_then spanned) same) ∙ crossed_by (Some d) (over (g d) (rows x))

@@ -1,10 +1,10 @@
 -- Columns judged by the rows of a box, then rows judged by the columns just kept.
-use Rattle.std.specs.Prelude.{◌≡◌, ℕ, ◌≤◌, Bool, Some, None, Option}
+use Rattle.std.specs.Prelude.{◌≡◌, ℕ, ◌≤◌, Bool, Some, None, Option, option_and_then}
 use Rattle.scan.specs.Live.{run}
 use Rattle.scan.specs.declared.stretch.Stretch.{Stretch}
 use Rattle.plane.specs.declared.plane_box.PlaneBox.{PlaneBox}
 use Rattle.plane.specs.declared.span.Span.{Span}
-use Rattle.plane.specs.Spans.{stretch}
+use Rattle.plane.specs.Spans.{stretch, spanned, long}
 use Rattle.plane.specs.Boxes.{rows, wide, tall, crossed}
 
 -- whether a column is live, by a stretch of rows; or a row, by a stretch of columns
@@ -28,6 +28,7 @@ judged f g x = crossed (live_columns f x) (live_rows g x (live_columns f x))
 abbrev pub SameOnPlane : (ℕ → Bool) → (ℕ → Bool) → Type 0
 SameOnPlane p q = (i : ℕ) → i ≤ 4095 → p i ≡ q i
 
--- what is made of a reading and a span tests as f says of them
-abbrev pub Makes : {R T : Type 0} → (R → Span → T → Type 0) → (T → ℕ → Bool) → (R → Test) → Type 0
-Makes {R} {T} made live f = (r : R) (s : Span) (t : T) → made r s t → SameOnPlane (live t) (f r (stretch s))
+-- what is found of a reading is the run, over a span along, of what is live by a span across
+abbrev pub Finds : {R : Type 0} → (R → Span → Span → Option Span → Type 0) → (R → Test) → Type 0
+Finds {R} found f =
+    (r : R) (along across : Span) (o : Option Span) → found r along across o → o ≡ option_and_then spanned (run (f r (stretch across)) along.low (long along))

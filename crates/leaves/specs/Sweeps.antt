@@ -1,5 +1,5 @@
 -- Sweeping a piece of the dial by a test of its points.
-use Rattle.std.specs.Prelude.{◌≡◌, ℕ, suc, ◌-◌, ◌<◌, Bool, true, false, not, Some, None, Option, nat_lt}
+use Rattle.std.specs.Prelude.{◌≡◌, ℕ, suc, ◌-◌, ◌<◌, ◌≤◌, Bool, true, false, not, IfSome, Some, None, Option, nat_lt}
 use Rattle.std.proofs.Common.{arith, sym, ap, subst, ◌∙◌}
 use Rattle.std.proofs.lemmas.Bool.{both_ways, and_parts, ltb-true, not_from_true, not_from_false}
 use Rattle.scan.specs.Live.{run, Runs}
@@ -20,6 +20,14 @@ module _ (t : ℕ → Bool) (x : Arc) where
 
   ran : Runs places 0 x.len (run places 0 x.len)
   ran = run_is places 0 x.len x.len (omega arith)
+
+  -- a run of places is short enough to be laid along x
+  short : (r : Option Stretch) → Runs places 0 x.len r → IfSome r (λ s. (s.low ≤ s.high) × (s.high < x.len))
+  short None f = tt
+  short (Some s) f = (f.1, f.2)
+
+  pub swept_short : (r : Option Stretch) → r ≡ run places 0 x.len → IfSome r (λ s. (s.low ≤ s.high) × (s.high < x.len))
+  swept_short r e = short r (subst (Runs places 0 x.len) (sym e) ran)
 
   laid : (s : Stretch) → Runs places 0 x.len (Some s) → (b : Arc) × (along x (Some s) ≡ Some b) × (begin x b ≡ s.low) × (b.len ≡ suc s.high - s.low) × (within b x ≡ true)
   laid s f = sliced x s.low (suc s.high - s.low) (omega (arith, f.1)) (omega (arith, f.1, f.2))

@@ -1,8 +1,9 @@
 // An arc as a contractor of the dial: its set is the points that it holds.
-ghost use Rattle.std.specs.Prelude.{◌≡◌, ◌<◌};
+ghost use Rattle.std.specs.Prelude.{◌≡◌, ◌<◌, ◌≤◌, IfSome};
 ghost use Rattle.domain.specs.Refusals.{Given};
-ghost use Rattle.dial.specs.Arcs.{AreArc, holds as holds_of, point as point_of};
-ghost use Rattle.leaves.specs.Arcs.{held, swept as swept_by, kept as kept_by, dropped as dropped_by};
+ghost use Rattle.scan.specs.Live.{run};
+ghost use Rattle.dial.specs.Arcs.{AreArc, along as along_of, holds as holds_of, point as point_of};
+ghost use Rattle.leaves.specs.Arcs.{held, missed, kept as kept_by, dropped as dropped_by};
 ghost use Rattle.leaves.specs.Sweeps.{arc_sound};
 
 use crate::opposite::Opposite;
@@ -11,13 +12,13 @@ use dial::arc::Arc;
 use domain::domain::Domain;
 use domain::refusal::Refusal;
 use scan::live::{Live, live_run};
+use scan::stretch::Stretch;
 
-// The point that lies `index` places past `start`, going round. The first remainder keeps the sum within 32 bits.
-#[tactic(auto, unfolding(dial::specs::Arcs::point))]
+// The point that lies `index` places past `start`, going round.
 fn point_past(start: u16, index: u32) -> u32
     ensures { (result ≡ point_of start index) × (result < 3600) }
 {
-    (u32::from(start) + index % 3600) % 3600
+    ((u64::from(start) + u64::from(index)) % 3600) as u32
 }
 
 // The test of the places of a piece: whether an arc holds the point there.
@@ -35,12 +36,12 @@ impl Live for Held {
     }
 }
 
-// From the first to the last place of a piece that passes a test.
-#[tactic(auto, using(crate::proofs::Found::run_within))]
-fn swept<L: Live>(piece: &Arc, test: &L) -> Option<Arc>
-    ensures { result ≡ swept_by (L.Live.live test.now) piece.now }
+// A run of the places of a piece as an arc.
+fn along(piece: &Arc, places: Option<Stretch>) -> Option<Arc>
+    requires { IfSome places (λ s. (s.low ≤ s.high) × (s.high < piece.now.len)) }
+    ensures { result ≡ along_of piece.now places }
 {
-    let places = live_run(test, 0, u32::from(piece.len()))?;
+    let places = places?;
     let start = point_past(piece.start(), places.low) as u16;
     let len = (places.high + 1 - places.low) as u16;
     Arc::new(start, len).ok()
@@ -77,6 +78,20 @@ impl ArcReading {
             piece: *piece,
         }
     }
+
+    // The run of the places of a piece whose points are of the reading.
+    fn held_run(&self, piece: &Arc) -> Option<Stretch>
+        ensures { result ≡ run (held self.now.arc piece.now) 0 piece.now.len }
+    {
+        live_run(&self.held(piece), 0, u32::from(piece.len()))
+    }
+
+    // The run of the places whose points are not.
+    fn missed_run(&self, piece: &Arc) -> Option<Stretch>
+        ensures { result ≡ run (missed self.now.arc piece.now) 0 piece.now.len }
+    {
+        live_run(&Opposite(self.held(piece)), 0, u32::from(piece.len()))
+    }
 }
 
 impl Contractor for ArcReading {
@@ -91,10 +106,10 @@ impl Contractor for ArcReading {
     ghost sound = { λ c. arc_sound c.arc };
 
     fn keep(&self, piece: &Arc) -> Option<Arc> {
-        swept(piece, &self.held(piece))
+        along(piece, self.held_run(piece))
     }
 
     fn shed(&self, piece: &Arc) -> Option<Arc> {
-        swept(piece, &Opposite(self.held(piece)))
+        along(piece, self.missed_run(piece))
     }
 }

@@ -2,7 +2,7 @@
 ghost use Rattle.std.specs.Prelude.{◌≡◌, option_and_then};
 ghost use Rattle.scan.specs.Live.{run};
 ghost use Rattle.plane.specs.Spans.{long, spanned};
-ghost use Rattle.leaves.specs.Judged.{Test, Makes, judged as judged_by};
+ghost use Rattle.leaves.specs.Judged.{Test, Finds, judged as judged_by};
 
 use plane::plane_box::PlaneBox;
 use plane::span::Span;
@@ -10,24 +10,25 @@ use scan::live::{Live, live_run};
 use scan::stretch::Stretch;
 
 // From the first to the last column of a piece that is live by its rows, and from the first to the last row that is
-// live by these columns. A reading makes the test of a column of a span of rows; turned over, its rows are columns.
-pub(crate) fn judged<R: Copy, L: Live + Copy, F: Fn(R, Span) -> L>(
+// live by these columns. A search takes a reading, a span of columns and one of rows; turned over, a reading's rows are
+// columns.
+pub(crate) fn judged<R: Copy, F: Fn(R, Span, Span) -> Option<Span>>(
     reading: R,
     turned: R,
     piece: &PlaneBox,
-    test: F,
+    search: F,
 ) -> Option<PlaneBox>
-    requires { F.IsAlwaysCallable test }
-    ensures { (f : R → Test) → Makes (F.post test) L.Live.live f → result ≡ judged_by (f reading) (f turned) piece.now }
+    requires { F.IsAlwaysCallable search }
+    ensures { (f : R → Test) → Finds (F.post search) f → result ≡ judged_by (f reading) (f turned) piece.now }
 {
-    let (columns, rows) = (piece.columns(), piece.rows());
-    let across = live_span(&test(reading, rows), columns)?;
-    let up = live_span(&test(turned, across), rows)?;
+    let (columns, rows) = piece.spans();
+    let across = search(reading, columns, rows)?;
+    let up = search(turned, rows, across)?;
     PlaneBox::crossing(Some(across), Some(up))
 }
 
 // From the first to the last index of a span that passes a test.
-fn live_span<L: Live>(test: &L, span: Span) -> Option<Span>
+pub(crate) fn live_span<L: Live>(test: &L, span: Span) -> Option<Span>
     ensures { result ≡ option_and_then spanned (run (L.Live.live test.now) span.low (long span)) }
 {
     let Stretch { low, high } = Stretch::from(span);

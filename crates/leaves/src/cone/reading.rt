@@ -19,10 +19,10 @@ impl Contractor for Cone {
     ghost sound = { cone_sound };
 
     fn keep(&self, piece: &PlaneBox) -> Option<PlaneBox> {
-        judged(*self, self.turned(), piece, Cone::kept_by)
+        judged(*self, self.turned(), piece, Cone::kept_run)
     }
 
     fn shed(&self, piece: &PlaneBox) -> Option<PlaneBox> {
-        judged(*self, self.turned(), piece, Cone::shed_by)
+        judged(*self, self.turned(), piece, Cone::shed_run)
     }
 }

@@ -1,10 +1,12 @@
 // The tests of a column of a cone, by a span of rows. The rows are the columns of the cone turned over.
-ghost use Rattle.std.specs.Prelude.{◌≡◌, min, not, ◌&&◌, pos, ◌-ℤ◌, ◌*ℤ◌, int_le};
-ghost use Rattle.plane.specs.Spans.{stretch};
+ghost use Rattle.std.specs.Prelude.{◌≡◌, min, not, ◌&&◌, pos, ◌-ℤ◌, ◌*ℤ◌, int_le, option_and_then};
+ghost use Rattle.scan.specs.Live.{run};
+ghost use Rattle.plane.specs.Spans.{long, spanned, stretch};
 ghost use Rattle.leaves.specs.Cones.{offset as offset_of, keeps, sheds, most, fewest};
 ghost use Rattle.leaves.specs.Judged.{SameOnPlane};
 
 use crate::cone::Cone;
+use crate::judged::live_span;
 use crate::offset::{Offset, Product};
 use crate::opposite::Opposite;
 use crate::vector::Direction;
@@ -69,6 +71,20 @@ impl Cone {
             first: extremes(self.u, self.beacon.y, rows).0,
             second: extremes(self.v, self.beacon.y, rows).1,
         })
+    }
+
+    // From the first to the last column that is live for keep, by a span of rows.
+    pub(crate) fn kept_run(self, columns: Span, rows: Span) -> Option<Span>
+        ensures { result ≡ option_and_then spanned (run (keeps self.u.x self.u.y self.v.y self.v.x self.beacon.x self.beacon.y (stretch rows)) columns.low (long columns)) }
+    {
+        live_span(&self.kept_by(rows), columns)
+    }
+
+    // From the first to the last one that is live for shed.
+    pub(crate) fn shed_run(self, columns: Span, rows: Span) -> Option<Span>
+        ensures { result ≡ option_and_then spanned (run (sheds self.u.x self.u.y self.v.y self.v.x self.beacon.x self.beacon.y (stretch rows)) columns.low (long columns)) }
+    {
+        live_span(&self.shed_by(rows), columns)
     }
 }
 

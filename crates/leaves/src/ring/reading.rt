@@ -19,10 +19,10 @@ impl Contractor for Ring {
     ghost sound = { ring_sound };
 
     fn keep(&self, piece: &PlaneBox) -> Option<PlaneBox> {
-        judged(*self, self.turned(), piece, Ring::kept_by)
+        judged(*self, self.turned(), piece, Ring::kept_run)
     }
 
     fn shed(&self, piece: &PlaneBox) -> Option<PlaneBox> {
-        judged(*self, self.turned(), piece, Ring::shed_by)
+        judged(*self, self.turned(), piece, Ring::shed_run)
     }
 }

@@ -10,5 +10,5 @@ returns c =
     let rows =
     ap₂ (λ a b. keeps a b t.beacon.x t.beacon.y) c.turned.ensures.radii.0 c.turned.ensures.radii.1
     ∙ ap₂ (λ x y. keeps r.inner r.outer x y) c.turned.ensures.beacon.0 c.turned.ensures.beacon.1 in
-    c.judged.ensures (λ q. keeps q.inner q.outer q.beacon.x q.beacon.y) (λ q s u p. p.1)
+    c.judged.ensures (λ q. keeps q.inner q.outer q.beacon.x q.beacon.y) (λ q s u o p. p.2)
     ∙ ap (λ g. judged (keeps r.inner r.outer r.beacon.x r.beacon.y) g c.args.piece.now) rows
