@@ -1,5 +1,5 @@
 -- Depth over a list of stretches, member by member; and that its first and last index are ends of stretches.
-use Rattle.std.proofs.Common.{◌≡◌, ℕ, zero, suc, ◌+◌, ◌-◌, ◌<◌, ◌≤◌, min, max, Bool, true, false, cond, ◌⊎◌, List, [], ◌∷◌, map, filter, Some, None, Option, MatchOption, sym, refl, subst, inl, inr, arith}
+use Rattle.std.proofs.Common.{◌≡◌, ℕ, zero, suc, ◌+◌, ◌-◌, ◌<◌, ◌≤◌, min, max, Bool, true, false, cond, ◌⊎◌, List, [], ◌∷◌, map, filter, Some, None, Option, MatchOption, sum_by, sym, refl, ap, ◌∙◌, subst, inl, inr, arith}
 use Rattle.std.specs.List.{AllByRecursion, fold, reduce}
 use Rattle.std.proofs.lemmas.List.Sums.{sum_by-cons}
 use Rattle.std.proofs.lemmas.Bool.{leb-true, le-leb, cases_eq, cases_lt, both_ways}
@@ -179,3 +179,8 @@ module _ (k : ℕ) (f : ℕ → Stretch) (ns : List ℕ) (b : ℕ) (some : 0 < k
       at_most i d =
           let r = deep_ends (λ s. deep k (map f ns) s.high ≡ true → s.high ≤ high) (b - i) k (map f ns) i b (omega (arith, deep_below k (map f ns) i b ends some d)) ends some (over (λ j. deep k (map f ns) j ≡ true → j ≤ high) (λ s. s.high) ns l.1) d in
           omega (arith, r.1 r.3, r.2)
+
+-- the depth, member by member, of members known by numbers
+pub depth_of : (extent : ℕ → Stretch) (i : ℕ) (ns : List ℕ) → sum_by (λ n. cond (covers (extent n) i) 1 0) ns ≡ depth (map extent ns) i
+depth_of extent i [] = refl
+depth_of extent i (n ∷ ns) = sum_by-cons (λ m. cond (covers (extent m) i) 1 0) n ns ∙ ap (λ k. cond (covers (extent n) i) 1 0 + k) (depth_of extent i ns) ∙ sym (sum_by-cons (λ s. cond (covers s i) 1 0) (extent n) (map extent ns))

@@ -13,11 +13,17 @@ pub trait Live {
 }
 
 // The first live index from `from` up to, and not with, `to`. Two numbers, and no range: `live_run` takes one of them
-// from what it found.
+// from what it found. A `for`, and no `find`: the compiler makes of it a loop that looks at sixteen places of the dial at
+// a time, and of `find` none.
 pub fn first_live<L: Live>(test: &L, from: u32, to: u32) -> Option<u32>
     ensures { First (L.Live.live test.now) from to result }
 {
-    (from..to).find(|&index| test.is_live(index))
+    for i in from..to {
+        if test.is_live(i) {
+            return Some(i);
+        }
+    }
+    None
 }
 
 // The last live index from `from` up to, and not with, `to`.
