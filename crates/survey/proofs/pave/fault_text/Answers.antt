@@ -1,4 +1,4 @@
-use Rattle.std.proofs.Common.{append_assoc, ◌≡◌, ◌∙◌, ◌++◌, ℕ}
+use Rattle.std.proofs.Common.{append_assoc, ◌≡◌, ◌++◌, ℕ}
 use Rattle.std.proofs.lemmas.Result.{IfOk-weaker}
 use Rattle.domain.specs.Refusals.{code}
 use Rattle.listing.specs.Lines.{line_end}
@@ -10,4 +10,4 @@ ended : (number line : ℕ) → fault_text number line ++ line_end ≡ fault_lin
 ended number line = simp append_assoc
 
 pub returns : goal.returns
-returns c = IfOk-weaker c.format.result _ _ (λ s e. e ∙ ended (code c.args.fault.refusal) c.args.fault.line) c.format.ensures.ok
+returns c = IfOk-weaker c.format.result _ _ (λ s e. let h = ended (code c.args.fault.refusal) c.args.fault.line in cc) c.format.ensures.ok
