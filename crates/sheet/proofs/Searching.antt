@@ -1,8 +1,9 @@
 -- A search through the pile, and through the roll.
-use Rattle.std.proofs.Common.{◌≡◌, ℕ, Bool, true, false, ◌||◌, cond, List, [], ◌∷◌, Some, None, Ok, Err, Option, MatchOption, Bor, sym, refl, ap, ◌∙◌, ap₂, inl, inr}
-use Rattle.std.specs.Option.{option_map}
+use Rattle.std.proofs.Common.{◌≡◌, ℕ, Bool, true, false, ◌||◌, cond, List, [], ◌∷◌, ◌++◌, Some, None, Ok, Err, Option, MatchOption, Bor, sym, refl, ap, ◌∙◌, ap₂, inl, inr}
+use Rattle.std.specs.Option.{option_map, option_or}
 use Rattle.std.specs.List.{list_any, find as find_in}
 use Rattle.std.proofs.lemmas.Bool.{cases_Bool}
+use Rattle.std.proofs.lemmas.List.Folds.{find-append}
 use Rattle.domain.specs.declared.refusal.Refusal.TheVariants.{NotAPoint}
 use Rattle.paving.specs.Sheet.{Task, State, roll}
 use Rattle.paving.specs.Turns.{held, place_of, place_on, find, found}
@@ -23,6 +24,11 @@ placed (Some r) = place_of r.class
 pub placed_by : {P N : Type 0} {Q : Bor (Record P) → Type 0} (o : Option (Bor (Record P))) (p : Place) → MatchOption o N Q → (N → p ≡ Taken) → ((x : Bor (Record P)) → Q x → p ≡ place_of x.now.class) → p ≡ placed (option_map (λ x. x.now) o)
 placed_by None p m f h = f m
 placed_by (Some x) p m f h = h x m
+
+-- what is found in two lists, one after the other
+pub found_in_either : {R N : Type 0} {Q : Bor R → Type 0} (p : R → Bool) (xs ys : List R) (o r : Option (Bor R)) → option_map (λ x. x.now) o ≡ find_in p xs → MatchOption o N Q → (N → option_map (λ x. x.now) r ≡ find_in p ys) → ((x : Bor R) → Q x → r ≡ Some x) → option_map (λ x. x.now) r ≡ find_in p (xs ++ ys)
+found_in_either p xs ys None r e m f h = f m ∙ ap (λ q. option_or q (find_in p ys)) e ∙ sym (find-append p xs ys)
+found_in_either p xs ys (Some x) r e m f h = ap (option_map (λ y. y.now)) (h x m) ∙ ap (λ q. option_or q (find_in p ys)) e ∙ sym (find-append p xs ys)
 
 module _ {P : Type 0} (t : Task P) (n : ℕ) where
   -- the point is held where any of the pieces holds it

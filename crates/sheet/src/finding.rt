@@ -1,5 +1,5 @@
 // Where a point is.
-ghost use Rattle.std.specs.Prelude.{◌≡◌};
+ghost use Rattle.std.specs.Prelude.{◌≡◌, find as find_in, option_map};
 ghost use Rattle.paving.specs.Turns.{found, held, place_on};
 ghost use Rattle.paving.specs.declared.turns.Turn.TheVariants.{Find};
 ghost use Rattle.sheet.specs.Piles.{waiting};
@@ -12,6 +12,15 @@ use contractor::contractor::Contractor;
 use domain::domain::Domain;
 use domain::refusal::Refusal;
 use paving::places::Place;
+use paving::records::Record;
+
+// The first of these records that holds a point. A function of one slice: a search through a chain of two takes half as
+// long again.
+fn holder<P: Domain>(records: &[Record<P>], point: u32) -> Option<&Record<P>>
+    ensures { option_map (λ r. r.now) result ≡ find_in (λ r. P.Domain.maps.holds r.piece point) records.now }
+{
+    records.iter().find(|record| record.piece.holds(point))
+}
 
 impl<C: Contractor> Sheet<C> {
     // Whether a waiting piece holds the point, from the top down.
@@ -27,9 +36,8 @@ impl<C: Contractor> Sheet<C> {
         ensures { result ≡ place_on (task_of C.Piece.Domain.maps (means C.Contractor) self.now) point (rolled self.now.store.roll) }
     {
         let (older, newer) = self.store.roll.as_slices();
-        let mut records = older.iter().chain(newer);
-        records
-            .find(|record| record.piece.holds(point))
+        holder(older, point)
+            .or_else(|| holder(newer, point))
             .map_or(Place::Taken, |record| Place::from(record.class))
     }
 
