@@ -3,6 +3,7 @@
 
 pub mod draft;
 pub mod entered;
+pub mod entries;
 pub mod joined;
 pub mod pair;
 pub mod panel;

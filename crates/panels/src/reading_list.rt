@@ -5,12 +5,12 @@ ghost use Rattle.domain.specs.Refusals.{Given};
 ghost use Rattle.contractor.specs.Means.{means};
 ghost use Rattle.panels.specs.Readings.{all_readings, few_readings};
 
+use crate::entries::Entries;
 use crate::panel::Panel;
 use contractor::contractor::Contractor;
 use domain::refusal::Refusal;
 
 pub mod order;
-mod places;
 
 // The readings are the front of memory that the caller lends: the library has no heap.
 #[derive(Drop)]
@@ -34,6 +34,16 @@ impl<'a, R> ReadingList<'a, R> {
         ensures { result.now ≡ self.now.memory.now }
     {
         &self.memory[..]
+    }
+
+    // The same readings, place by place, for whoever need not know of panels.
+    pub fn entries(&self) -> Entries<'a, R>
+        ensures { (result.memory.now ≡ self.now.memory.now) × (result.len ≡ self.now.len) }
+    {
+        Entries {
+            memory: self.memory,
+            len: self.len,
+        }
     }
 
     // The reading at a place, from 0 on.
